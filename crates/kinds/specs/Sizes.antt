@@ -1,0 +1,42 @@
+-- Document 01, "Sizes a home may have": the group, its hubs and majority, terms, the log's limit, the sizes of texts.
+-- Every number of that section stands here and nowhere else. Assumes nothing.
+use Prim.Native.Nat.{ℕ, _+_, _/_}
+use mathlib.Core.Bool.{Bool, _&&_, _||_}
+use lib.Dec.{leb, eqb}
+
+-- x lies in lo..hi, both ends included.
+unfoldable pub between : ℕ → ℕ → ℕ → Bool
+between lo hi x = leb lo x && leb x hi
+
+-- Who is called: the group size N, and the hub's own number. They come with every call.
+pub record Who : Type 0 where
+  pub size : ℕ
+  pub own : ℕ
+
+-- Group size N: 3, 5 or 7.
+unfoldable pub isSize : ℕ → Bool
+isSize n = eqb n 3 || (eqb n 5 || eqb n 7)
+
+-- Hubs are 1..N.
+unfoldable pub isHub : ℕ → ℕ → Bool
+isHub n h = between 1 n h
+
+-- The hub numbers that any group may have: 1..7.
+abbrev pub hubs-most : ℕ
+hubs-most = 7
+
+-- A majority is floor(N/2)+1.
+abbrev pub majority : ℕ → ℕ
+majority n = n / 2 + 1
+
+-- Terms and ballots: 0..4,294,967,295.
+abbrev pub term-most : ℕ
+term-most = 4_294_967_295
+
+-- Log: places 1..256. One name for the limit: nothing else knows the number.
+unfoldable pub limit : ℕ
+limit = 256
+
+-- Output buffer: at least 16,384 bytes. Input message: at most 16,384 bytes.
+unfoldable pub text-room : ℕ
+text-room = 16_384

@@ -1,0 +1,13 @@
+//! One hub's step, and the reading and writing of its messages and commands, from the text of document 01 alone.
+//! No input or output, no clock, no allocation, no state of its own: the same bytes in give the same bytes out.
+
+#![forbid(unsafe_code)]
+#![warn(missing_docs)]
+
+pub mod command;
+pub mod kinds;
+pub mod message;
+pub mod state;
+pub mod step;
+
+pub use kinds::{Answer, Entry, Group, Hub, LIMIT, Outcome, Place, Term};
