@@ -1,0 +1,1 @@
+// Worked examples of the step: no code of its own.

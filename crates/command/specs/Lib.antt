@@ -1,0 +1,5 @@
+pub mod Words
+pub mod Command
+pub mod Case
+pub mod Entry
+pub mod Proposal

@@ -1,0 +1,4 @@
+pub mod Message
+pub mod Legal
+pub mod Fields
+pub mod Text

@@ -1,0 +1,1 @@
+// Messages between hubs: their definitions. They are read and written by later parts of this crate.

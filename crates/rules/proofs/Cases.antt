@@ -1,0 +1,9 @@
+-- Document 01's cases, computed. Assumes nothing.
+use mathlib.Core.Path.{refl}
+use Rattle.rules.specs.Cases.{table, CasesHold}
+use Rattle.rules.proofs.Computed.{computed}
+
+-- The twelve starred cases.
+pub cases-hold : CasesHold
+unfolding computed table
+cases-hold = refl

@@ -1,0 +1,55 @@
+-- A worked case: one call of the step at full size, and all that has to come out of it. Assumes nothing.
+use Prim.Native.Nat.{ℕ}
+use mathlib.Core.Bool.{Bool, true, _&&_}
+use mathlib.Core.List.{List}
+use mathlib.Core.Path.{_≡_}
+use lib.Dec.{eqb}
+use lib.ListN.{length, replicate}
+use Rattle.kinds.specs.Sizes.{Who}
+use Rattle.state.specs.Image.{same}
+use Rattle.state.specs.Legal.{all}
+use Rattle.rules.specs.Step.{Call, Answer, stepOf, over}
+
+pub record Row : Type 0 where
+  pub case : ℕ  -- the number of the case, or the outcome that the row is an example of
+  pub who : Who
+  pub event : ℕ
+  pub a : ℕ
+  pub b : ℕ
+  pub state : List ℕ
+  pub input : List ℕ
+  pub room : ℕ  -- the bytes of the output
+  pub outcome : ℕ
+  pub next : List ℕ  -- the bytes of the state afterwards
+  pub message : List ℕ  -- the text that is written; empty for none
+
+-- An output filled with a byte that no message has.
+abbrev pub lent : Row → List ℕ
+lent r = replicate (r .room) 255
+
+abbrev pub callOf : Row → Call
+callOf r =
+    record {
+      who = r .who;
+      event = r .event;
+      a = r .a;
+      b = r .b;
+      state = r .state;
+      input = r .input;
+      output = lent r;
+    }
+
+-- The answer of a call: outcome, bytes written, every byte of the state and of the output.
+abbrev pub answers : Row → Answer → Bool
+answers r given =
+    eqb (given .outcome) (r .outcome)
+    && (eqb (given .wrote) (length (r .message))
+    && (same (given .state) (r .next) && same (given .output) (over (r .message) (lent r))))
+
+-- The step gives what the row says.
+unfoldable pub holds : Row → Bool
+holds r = answers r (stepOf (callOf r))
+
+-- Every row of a table holds.
+abbrev pub AllHold : List Row → Type 0
+AllHold table = all holds table ≡ true

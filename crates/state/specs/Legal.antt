@@ -1,0 +1,67 @@
+-- Document 01, "Legal state": the kept parts alone, and with what each role holds, given N and the own number.
+-- A list over the seven hubs has hub h at h - 1. Assumes nothing.
+use Prim.Native.Nat.{ℕ, _+_, _-_}
+use mathlib.Core.Bool.{Bool, true, false, _&&_, _||_, not}
+use mathlib.Core.List.{List, [], _∷_}
+use lib.Dec.{leb, ltb, eqb}
+use lib.ListN.{length, drop, getD}
+use Rattle.kinds.specs.Sizes.{between, Who, hubs-most, majority, term-most, limit}
+use Rattle.command.specs.Command.{legalCommand}
+use Rattle.command.specs.Entry.{legalEntries}
+use Rattle.state.specs.State.{Kept, Pair, Lost, follower, candidate, leader, State}
+
+-- ---- lists
+
+-- All of a list's members have a property.
+unfoldable pub all : {A : Type 0} → (A → Bool) → List A → Bool
+all P [] = true
+all P (x ∷ xs) = P x && all P xs
+
+-- How many of a list's members have a property.
+unfoldable pub count : {A : Type 0} → (A → Bool) → List A → ℕ
+count P [] = 0
+count P (x ∷ xs) = elim (P x) [ true ↦ 1 + count P xs | false ↦ count P xs ]
+
+-- ---- the kept parts
+
+-- ballot ≤ term; chosen ≤ length ≤ 256; an empty log if ballot is 0; entry terms at least 1, never falling, at most ballot; commands legal.
+unfoldable pub legalKept : Kept → Bool
+legalKept k =
+    leb (k .term) term-most
+    && (leb (k .ballot) (k .term)
+    && (leb (k .chosen) (length (k .log))
+    && (leb (length (k .log)) limit
+    && ((not (eqb (k .ballot) 0) || eqb (length (k .log)) 0) && legalEntries 1 (k .ballot) (k .log)))))
+
+-- ---- what a role holds
+
+-- Ballots at least 1 and below term, commands legal.
+unfoldable pub legalPair : ℕ → Pair → Bool
+legalPair term g = leb 1 (g .ballot) && (ltb (g .ballot) term && legalCommand (g .command))
+
+-- Ballot below term; itself and less than a majority among the voters, all in 1..N; gathered pairs for the places just after its log, to 256 at most.
+unfoldable pub legalCandidate : Who → Kept → List Bool → List Pair → Bool
+legalCandidate w k voters gathered =
+    ltb (k .ballot) (k .term)
+    && (eqb (length voters) hubs-most
+    && (getD voters (w .own - 1) false
+    && (ltb (count (λ v. v) voters) (majority (w .size))
+    && (all not (drop (w .size) voters)
+    && (leb (length (k .log) + length gathered) limit && all (legalPair (k .term)) gathered)))))
+
+-- Ballot = term ≥ 1; confirmed lengths at most its length, its own equal to it, zero for numbers above N.
+unfoldable pub legalLeader : Who → Kept → List ℕ → Bool
+legalLeader w k confirmed =
+    eqb (k .ballot) (k .term)
+    && (leb 1 (k .term)
+    && (eqb (length confirmed) hubs-most
+    && (all (λ n. leb n (length (k .log))) confirmed
+    && (eqb (getD confirmed (w .own - 1) 0) (length (k .log)) && all (λ n. eqb n 0) (drop (w .size) confirmed)))))
+
+unfoldable pub legalLost : Who → Kept → Lost → Bool
+legalLost w k follower = true
+legalLost w k (candidate voters gathered) = legalCandidate w k voters gathered
+legalLost w k (leader confirmed) = legalLeader w k confirmed
+
+unfoldable pub legalState : Who → State → Bool
+legalState w s = legalKept (s .kept) && legalLost w (s .kept) (s .lost)

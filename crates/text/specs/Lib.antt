@@ -1,0 +1,5 @@
+pub mod Ascii
+pub mod Reader
+pub mod Decimal
+pub mod Hex
+pub mod Line

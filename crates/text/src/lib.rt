@@ -1,0 +1,1 @@
+// Text: no code yet.
