@@ -1,0 +1,1 @@
+// MultiPaxos, the machine that the hubs are mapped to: definitions and theorems, no code.
