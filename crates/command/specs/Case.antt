@@ -1,7 +1,7 @@
 -- "A command is a stop, a buzz that carries its gain, or a ramp that carries its two gains": the code's enum, and for each of its cases
 -- document 01's number and values. Assumes nothing.
-use Prim.Native.Nat.{ℕ}
-use lib.Ieee.{binary32, toBits}
+use Prim.Native.Nat.{ℕ, zero, suc}
+use lib.Ieee.{binary32, toBits, ofBits}
 use Rattle.command.specs.Command.{Command}
 use Rattle.command.specs.declared.Case.{Case}
 use Rattle.command.specs.declared.Case.the-variants.{Stop, Buzz, Ramp}
@@ -29,3 +29,13 @@ bOf (Ramp from to) = toBits binary32 to
 unfoldable pub commandIs : Motion → Command
 commandIs m =
     record { motor = m .motor; kind = kindOf (m .case); duration = m .duration; a = aOf (m .case); b = bOf (m .case) }
+
+-- The case of a kind and two values: 0 is a stop, 1 a buzz with gain a, any other a ramp from a to b.
+unfoldable pub caseOf : ℕ → ℕ → ℕ → Case
+caseOf zero a b = Stop
+caseOf (suc zero) a b = Buzz (ofBits binary32 a)
+caseOf (suc (suc kind)) a b = Ramp (ofBits binary32 a) (ofBits binary32 b)
+
+-- The motion that a command asks for.
+unfoldable pub motionOf : Command → Motion
+motionOf c = record { motor = c .motor; duration = c .duration; case = caseOf (c .kind) (c .a) (c .b) }

@@ -1,0 +1,5 @@
+pub mod Tests
+pub mod WordsLaws
+pub mod CommandLaws
+pub mod CaseLaws
+pub mod AnswersLaws

@@ -1,0 +1,39 @@
+//! The proved library's functions, as safe Rust. Slices pass as a pointer and a length.
+//! Beside them what every comparison uses: a small random number generator, and lent bytes that are watched.
+
+pub mod rng;
+pub mod watched;
+
+mod library {
+    unsafe extern "C" {
+        pub fn kritnamon_read_command(
+            bytes: *const u8,
+            length: usize,
+            numbers: *mut u32,
+            count: usize,
+        ) -> u32;
+        pub fn kritnamon_write_command(
+            motor: u32,
+            kind: u32,
+            duration: i32,
+            a: u32,
+            b: u32,
+            out: *mut u8,
+            length: usize,
+        ) -> u32;
+    }
+}
+
+/// Reads a command alone, into lent numbers: motor, kind, duration, a and b.
+pub fn read_command(bytes: &[u8], numbers: &mut [u32]) -> u32 {
+    // SAFETY: each pointer and length are those of one slice, the second lent to this call alone.
+    unsafe {
+        library::kritnamon_read_command(bytes.as_ptr(), bytes.len(), numbers.as_mut_ptr(), numbers.len())
+    }
+}
+
+/// Writes a command alone.
+pub fn write_command(motor: u32, kind: u32, duration: i32, a: u32, b: u32, out: &mut [u8]) -> u32 {
+    // SAFETY: pointer and length are those of one slice, lent to this call alone.
+    unsafe { library::kritnamon_write_command(motor, kind, duration, a, b, out.as_mut_ptr(), out.len()) }
+}
