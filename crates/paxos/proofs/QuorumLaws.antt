@@ -3,12 +3,12 @@ use mathlib.Core.Path.{_≡_, refl, ap}
 use mathlib.Core.Bool.{Bool, true, false}
 use Prim.Native.Nat.{ℕ, zero, suc, _+_, _<_, _≤_}
 use native.Mathlib.Omega.{arith}
-use Rattle.paxos.specs.Quorum.{Hub, bit, count, Majority}
+use Rattle.paxos.specs.Quorum.{IsHub, bit, count, Majority}
 
 -- A hub of 1..n that is in both sets.
 pub record Shared (n : ℕ) (P Q : ℕ → Bool) : Type 0 where
   pub hub : ℕ
-  pub is : Hub n hub
+  pub is : IsHub n hub
   pub first : P hub ≡ true
   pub second : Q hub ≡ true
 

@@ -7,7 +7,7 @@ use mathlib.Core.List.{[], _∷_}
 use Prim.Native.Nat.{ℕ, _≤_, _<_}
 use native.Mathlib.Omega.{arith}
 use Rattle.paxos.specs.Put.{put}
-use Rattle.paxos.specs.Quorum.{Hub, count, Majority}
+use Rattle.paxos.specs.Quorum.{IsHub, count, Majority}
 use Rattle.paxos.specs.Paxos.{Seen, never, at, Event, asked, raised, reported, proposed, voted, History, _∈_, here, there, promise, Highest, Free, highest, any, Can, ask, raise, report, propose, vote, done, next, Run, ChosenAt}
 use Rattle.paxos.proofs.PutLaws.{put-cases}
 use Rattle.paxos.proofs.Member.{clash}
@@ -16,31 +16,31 @@ use Rattle.paxos.proofs.Theorems.{binds, stays-at, votes-choose}
 -- ---- sets of two hubs
 
 -- The hubs a and b.
-pair : ℕ → ℕ → ℕ → Bool
+unfoldable pub pair : ℕ → ℕ → ℕ → Bool
 pair a b = put (put (λ h. false) a true) b true
 
 -- What holds of a and of b holds of each hub of the pair.
-both : (P : ℕ → Type 0) (a b : ℕ) → P a → P b → (h : ℕ) → pair a b h ≡ true → P h
+pub both : (P : ℕ → Type 0) (a b : ℕ) → P a → P b → (h : ℕ) → pair a b h ≡ true → P h
 unfolding pair
 both P a b x y =
     put-cases (λ h q. q ≡ true → P h) _ b true (λ q. y)
     (λ h ne. put-cases (λ h q. q ≡ true → P h) _ a true (λ q. x) (λ h ne q. clash (cc)) h)
 
-most₁₂ : Majority 3 (pair 1 2)
+pub most₁₂ : Majority 3 (pair 1 2)
 unfolding count pair put
 most₁₂ = omega arith
 
-most₂₃ : Majority 3 (pair 2 3)
+pub most₂₃ : Majority 3 (pair 2 3)
 unfolding count pair put
 most₂₃ = omega arith
 
-hub₁ : Hub 3 1
+pub hub₁ : IsHub 3 1
 hub₁ = omega arith
 
-hub₂ : Hub 3 2
+pub hub₂ : IsHub 3 2
 hub₂ = omega arith
 
-hub₃ : Hub 3 3
+pub hub₃ : IsHub 3 3
 hub₃ = omega arith
 
 -- ---- what holds of every event so far
@@ -90,7 +90,7 @@ pub nil : ℕ → Seen ℕ
 nil p = never
 
 -- A hub of which there is no vote reports none.
-reports-nil : {s : History ℕ} {h b : ℕ} → Hub 3 h → promise s h ≡ b → All (Not-by h) s → Can 3 s (reported h b nil)
+reports-nil : {s : History ℕ} {h b : ℕ} → IsHub 3 h → promise s h ≡ b → All (Not-by h) s → Can 3 s (reported h b nil)
 unfolding nil
 reports-nil {h} is e a = report {seen = nil} is e (λ p b c m. member (Not-by h) a m refl)
 
@@ -147,7 +147,7 @@ seen = put (λ h. nil) 2 seven
 
 -- A hub that did, where all votes are of ballot 1 and place 1, reports that.
 reports-seven :
-    {s : History ℕ} {h b : ℕ} → Hub 3 h → promise s h ≡ b → voted h 1 1 7 ∈ s → All At-one s → Can 3 s (reported h b seven)
+    {s : History ℕ} {h b : ℕ} → IsHub 3 h → promise s h ≡ b → voted h 1 1 7 ∈ s → All At-one s → Can 3 s (reported h b seven)
 unfolding seven nil
 reports-seven {s} {h} is e v a =
     report is e

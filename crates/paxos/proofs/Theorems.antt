@@ -1,7 +1,8 @@
 -- What the machine of N hubs guarantees, for every N and every run. Assumes nothing.
 -- One command at most is ever chosen at a place (`agree`), what is chosen stays chosen (`stays`), and some client asked for it
--- (`valid`). `share`, beside `QuorumLaws`, is the fact on majorities that all of it rests on; `binds` is the reason:
--- from the ballot at which a command was chosen on, nothing else is proposed for that place.
+-- (`valid`). It rests on two facts that are passed on here: two majorities share a hub (`share`), and at most one command is
+-- proposed per ballot and place (`unique`). `binds` is the reason for agreement: from the ballot at which a command was chosen on,
+-- nothing else is proposed for that place.
 use mathlib.Core.Path.{_≡_, sym}
 use mathlib.Core.Bool.{Bool, true}
 use Prim.Native.Nat.{ℕ, _≤_}
@@ -9,7 +10,8 @@ use native.Mathlib.Omega.{arith}
 use native.Mathlib.Decide.{decLe}
 use Rattle.paxos.specs.Quorum.{Majority}
 use Rattle.paxos.specs.Paxos.{asked, proposed, voted, History, _∈_, here, there, _⊆_, highest, any, propose, Steps, next, Run, ChosenAt, Chosen}
-use Rattle.paxos.proofs.QuorumLaws.{share}
+pub use Rattle.paxos.proofs.QuorumLaws.{Shared, share}
+pub use Rattle.paxos.proofs.Safe.{unique}
 use Rattle.paxos.proofs.Steps.{steps-trans, steps-keep}
 use Rattle.paxos.proofs.Safe.{voted-proposed, told, held-by}
 

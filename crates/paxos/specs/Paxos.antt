@@ -8,7 +8,7 @@ use mathlib.Core.Bool.{Bool, true}
 use mathlib.Core.List.{List, [], _∷_}
 use Prim.Native.Nat.{ℕ, _≤_, _<_}
 use Rattle.paxos.specs.Put.{put}
-use Rattle.paxos.specs.Quorum.{Hub, Majority}
+use Rattle.paxos.specs.Quorum.{IsHub, Majority}
 
 -- ---- the history
 
@@ -74,9 +74,9 @@ pub data Can {C : Type 0} (N : ℕ) (s : History C) : Event C → Type 0 where
   -- A client asks for a command, at any time.
   ask : {c : C} → Can N s (asked c)
   -- A hub raises its promise.
-  raise : {h b : ℕ} → Hub N h → promise s h < b → Can N s (raised h b)
+  raise : {h b : ℕ} → IsHub N h → promise s h < b → Can N s (raised h b)
   -- A hub reports, at the ballot that it has promised, its highest vote per place.
-  report : {h b : ℕ} {seen : ℕ → Seen C} → Hub N h → promise s h ≡ b → ((p : ℕ) → Highest s h p (seen p)) → Can N s (reported h b seen)
+  report : {h b : ℕ} {seen : ℕ → Seen C} → IsHub N h → promise s h ≡ b → ((p : ℕ) → Highest s h p (seen p)) → Can N s (reported h b seen)
   -- Once a majority reported at the ballot, a command is proposed there that the reports allow, one for each place at most.
   propose :
       {b p : ℕ} {c : C} (Q : ℕ → Bool) (seen : ℕ → ℕ → Seen C)
@@ -86,7 +86,7 @@ pub data Can {C : Type 0} (N : ℕ) (s : History C) : Event C → Type 0 where
       → Free s b p
       → Can N s (proposed b p c)
   -- A hub votes for a proposal if its promise is not above it.
-  vote : {h b p : ℕ} {c : C} → Hub N h → proposed b p c ∈ s → promise s h ≤ b → Can N s (voted h b p c)
+  vote : {h b p : ℕ} {c : C} → IsHub N h → proposed b p c ∈ s → promise s h ≤ b → Can N s (voted h b p c)
 
 -- Zero or more steps from one history to another.
 pub data Steps {C : Type 0} (N : ℕ) (s : History C) : History C → Type 0 where

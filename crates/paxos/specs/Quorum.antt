@@ -1,10 +1,11 @@
 -- The hubs 1..N, sets of them, and majorities. A set is a test on numbers; only the hubs 1..N are counted, whatever it says of
 -- other numbers. A majority is floor(N/2)+1 hubs, so no hubs at all (N = 0) have none. Assumes nothing.
 use mathlib.Core.Bool.{Bool, true, false}
-use Prim.Native.Nat.{ℕ, zero, suc, _+_, _/_, _≤_}
+use Prim.Native.Nat.{ℕ, zero, suc, _+_, _≤_}
+use Rattle.kinds.specs.Sizes.{majority}
 
 -- `h` is one of the hubs 1..N.
-pub record Hub (N h : ℕ) : Type 0 where
+pub record IsHub (N h : ℕ) : Type 0 where
   pub low : 1 ≤ h
   pub high : h ≤ N
 
@@ -20,4 +21,4 @@ count (suc n) Q = bit (Q (suc n)) + count n Q
 
 -- The set `Q` is a majority of the hubs 1..N.
 abbrev pub Majority : ℕ → (ℕ → Bool) → Type 0
-Majority N Q = N / 2 + 1 ≤ count N Q
+Majority N Q = majority N ≤ count N Q

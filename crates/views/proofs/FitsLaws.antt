@@ -1,0 +1,203 @@
+-- Each action keeps the invariant, and the machine takes the steps behind it. Assumes nothing.
+-- The route: one hub leads a term, since a report is given once and two majorities share a hub (`one-leader`). So where the leader
+-- of a term holds nothing of that term, nothing is proposed (`unproposed`), and the machine may propose there.
+use mathlib.Core.Path.{_≡_, refl, sym}
+use mathlib.Core.Logic.{_≢_}
+use mathlib.Core.Bool.{Bool}
+use mathlib.Core.List.{List, _∷_}
+use Prim.Native.Nat.{ℕ, _<_}
+use native.Mathlib.Omega.{arith}
+use Rattle.paxos.specs.Put.{put}
+use Rattle.paxos.specs.Paxos.{Seen, at, Event, asked, proposed, voted, History, _∈_, here, there, _⊆_, promise, Can, Steps, Run}
+use Rattle.paxos.proofs.PutLaws.{put-cases, put-same}
+use Rattle.paxos.proofs.QuorumLaws.{share}
+use Rattle.paxos.proofs.Member.{clash, new, as-in}
+use Rattle.paxos.proofs.Steps.{steps-one, steps-trans, steps-keep}
+use Rattle.paxos.proofs.Safe.{unique}
+use Rattle.views.specs.Hall.{View, with-term, with-vote, Gift, Hall, giving, turned, Leads, gave}
+use Rattle.views.specs.Fits.{Keeps, Owns, Made, Fits}
+use Rattle.views.specs.Acts.{Act, ask, raise, give, make, take, say}
+use Rattle.views.proofs.KeepsLaws.{keeps-event, keeps-gift, keeps-raise, keeps-say, keeps-vote}
+
+-- ---- who leads, and what it made
+
+-- Who leads goes on leading.
+pub leads-on :
+    {C : Type 0} {N : ℕ} {G G′ : List (Gift C)} {t h : ℕ} {Q : ℕ → Bool} {seen : ℕ → ℕ → Seen C}
+    → G ⊆ G′ → Leads N G t h Q seen → Leads N G′ t h Q seen
+leads-on sub x = record { most = x .most; all = λ g q. sub _ (x .all g q) }
+
+module _ {C : Type 0} {N : ℕ} {H : Hall C} (ok : Fits N H) where
+  -- One hub leads a term.
+  pub one-leader :
+      {t h g : ℕ} {P Q : ℕ → Bool} {x y : ℕ → ℕ → Seen C}
+      → Leads N (H .gifts) t h P x → Leads N (H .gifts) t g Q y → h ≡ g
+  one-leader {t} {h} {g} {P} {Q} {x} {y} a b =
+      let sh = share N P Q (a .most) (b .most) in
+      ok .once (sh .hub) t h g _ _ (a .all _ (sh .first)) (b .all _ (sh .second))
+
+  -- What is proposed at the leader's term it holds.
+  pub leader-holds :
+      {t h p : ℕ} {c : C} {Q : ℕ → Bool} {x : ℕ → ℕ → Seen C} → Leads N (H .gifts) t h Q x
+      → t ≡ H .view h .term → proposed t p c ∈ H .past → H .view h .holds p ≡ at t c
+  leader-holds {t} {h} {p} {c} l e m =
+      let x = ok .made t p c m in
+      let same : x .hub ≡ h = one-leader (x .leads) l in
+      let own : Owns (H .view h) t p c = rw same at (x .owns) in
+      own .mine e
+
+-- ---- the machine's steps
+
+module _ {C : Type 0} {N : ℕ} {H : Hall C} (ok : Fits N H) where
+  -- Behind each action the machine takes zero or more steps.
+  pub act-steps : {J : Hall C} → Act N H J → Steps N (H .past) (J .past)
+  unfolding promise
+  act-steps ask = steps-one Can.ask
+  act-steps (raise {h} is lt) = let pr = (ok .hubs h) .promised in steps-one (Can.raise is (omega arith))
+  act-steps (give {h} is un) = steps-one (Can.report is ((ok .hubs h) .promised) ((ok .hubs h) .held))
+  act-steps (make {h} Q seen is l pick un) =
+      let pr = (ok .hubs h) .promised in
+      Steps.next
+      (steps-one (Can.propose Q seen (l .most) (λ g q. ok .given g _ _ _ (l .all g q)) pick (λ d m. un d (leader-holds ok l refl m))))
+      (Can.vote is here (omega arith))
+  act-steps (take {h} is m) = let pr = (ok .hubs h) .promised in steps-one (Can.vote is m (omega arith))
+  act-steps (say w more all) = Steps.done
+
+-- ---- the invariant, action by action
+
+-- Having raised its term, a hub owns what it owned.
+owns-raise : {C : Type 0} {v : View C} {t k p : ℕ} {c : C} → v .term < k → Owns v t p c → Owns (with-term v k) t p c
+owns-raise lt o = let up = o .up in record { up = omega arith; mine = λ e. absurd (omega arith) }
+
+-- Having voted at its term, a hub owns what it owned: at one place and term nothing else is proposed.
+owns-vote :
+    {C : Type 0} {N : ℕ} {s : History C} {v : View C} {t p q : ℕ} {c d : C}
+    → Run N s → proposed (v .term) p c ∈ s → proposed t q d ∈ s → Owns v t q d → Owns (with-vote v p c) t q d
+owns-vote {s} {v} {t} {p} {q} {c} {d} run m n o =
+    record {
+      up = o .up;
+      mine =
+          λ e.
+          put-cases (λ k x. proposed t k d ∈ s → v .holds k ≡ at t d → x ≡ at t d) (v .holds) p (at (v .term) c)
+          (λ n′ h. let same = unique run (rw (sym e) at m) n′ in cc)
+          (λ k ne n′ h. h)
+          q n (o .mine e);
+    }
+
+-- What was made stays made when more is given.
+made-given :
+    {C : Type 0} {N : ℕ} {G G′ : List (Gift C)} {view : ℕ → View C} {t p : ℕ} {c : C}
+    → G ⊆ G′ → Made N G view t p c → Made N G′ view t p c
+made-given sub x = record { hub = x .hub; backers = x .backers; seen = x .seen; leads = leads-on sub (x .leads); owns = x .owns }
+
+-- And when hub `h` has another view that owns it if the one before did.
+made-turned :
+    {C : Type 0} {N : ℕ} {G : List (Gift C)} {t p : ℕ} {c : C} (view : ℕ → View C) (h : ℕ) (v : View C)
+    → (Owns (view h) t p c → Owns v t p c) → Made N G view t p c → Made N G (put view h v) t p c
+made-turned {t} {p} {c} view h v own x =
+    record {
+      hub = x .hub;
+      backers = x .backers;
+      seen = x .seen;
+      leads = x .leads;
+      owns = put-cases (λ g w. Owns (view g) t p c → Owns w t p c) view h v own (λ g ne o. o) (x .hub) (x .owns);
+    }
+
+-- A run but for its last event is a run.
+run-before : {C : Type 0} {N : ℕ} {s : History C} {e : Event C} → Run N (e ∷ s) → Run N s
+run-before (Steps.next r k) = r
+
+module _ {C : Type 0} {N : ℕ} {H : Hall C} (ok : Fits N H) where
+  -- One hub has another view after its action: what is left to prove, the frame being done.
+  turned-fits :
+      {s : History C} (h : ℕ) (v : View C)
+      → Act N H (turned H s h v)
+      → Keeps N s (H .gifts) h v
+      → ((g : ℕ) → g ≢ h → Keeps N s (H .gifts) g (H .view g))
+      → ((t p : ℕ) (c : C) → proposed t p c ∈ s → Made N (H .gifts) (put (H .view) h v) t p c)
+      → Fits N (turned H s h v)
+  turned-fits {s} h v a own others made =
+      record {
+        run = steps-trans (ok .run) (act-steps ok a);
+        hubs = put-cases (Keeps N s (H .gifts)) (H .view) h v own others;
+        given = λ g t l x m. steps-keep (act-steps ok a) _ (ok .given g t l x m);
+        once = ok .once;
+        made = made;
+      }
+
+  -- A hub has given its report: what is left to prove is that it did so once.
+  given-fits :
+      (h l : ℕ)
+      → Act N H (giving H h l)
+      → ((g t m n : ℕ) (x y : ℕ → Seen C) → gave g t m x ∈ (giving H h l) .gifts → gave g t n y ∈ (giving H h l) .gifts → m ≡ n)
+      → Fits N (giving H h l)
+  given-fits h l a once =
+      record {
+        run = steps-trans (ok .run) (act-steps ok a);
+        hubs = λ g. keeps-gift (keeps-event (ok .hubs g) _ tt) h _ l _ (λ e. rw e (omega arith));
+        given = λ g t m x z. new z (λ e. as-in (cc) here) (λ old. there (ok .given g t m x old));
+        once = once;
+        made = λ t p c m. new m (λ e. clash (cc)) (λ old. made-given (λ a z. there z) (ok .made t p c old));
+      }
+
+  -- The leader has made a proposal, which is its own.
+  made-fits :
+      {h p : ℕ} {c : C} {Q : ℕ → Bool} {seen : ℕ → ℕ → Seen C}
+      → Leads N (H .gifts) (H .view h .term) h Q seen
+      → Act N H (turned H (voted h (H .view h .term) p c ∷ (proposed (H .view h .term) p c ∷ H .past)) h (with-vote (H .view h) p c))
+      → Fits N (turned H (voted h (H .view h .term) p c ∷ (proposed (H .view h .term) p c ∷ H .past)) h (with-vote (H .view h) p c))
+  made-fits {h} {p} {c} {Q} {seen} l a =
+      turned-fits h v a
+      (keeps-vote (keeps-event (ok .hubs h) _ tt) p c run here)
+      (λ g ne. keeps-event (keeps-event (ok .hubs g) (proposed t p c) tt) _ ne)
+      (λ k q d n. new n (λ e. clash (cc)) (λ n′. new n′ now (λ old. made-turned _ h v (owns-vote run here (there old)) (ok .made k q d old))))
+    where
+      t : ℕ
+      t = H .view h .term
+
+      v : View C
+      v = with-vote (H .view h) p c
+
+      run : Run N (proposed t p c ∷ H .past)
+      run = run-before (steps-trans (ok .run) (act-steps ok a))
+
+      mine : Owns v t p c
+      mine = record { up = omega arith; mine = λ e. put-same (H .view h .holds) p (at t c) }
+
+      now : {k q : ℕ} {d : C} → proposed k q d ≡ proposed t p c → Made N (H .gifts) (put (H .view) h v) k q d
+      now {k} {q} {d} e =
+          let k= : k ≡ t = cc in
+          let q= : q ≡ p = cc in
+          let d= : d ≡ c = cc in
+          rw (k=, q=, d=) (record { hub = h; backers = Q; seen = seen; leads = l; owns = rw put-same mine })
+
+  -- Every action keeps the invariant.
+  pub act-fits : {J : Hall C} → Act N H J → Fits N J
+  act-fits (ask {c}) =
+      record {
+        run = Steps.next (ok .run) Can.ask;
+        hubs = λ h. keeps-event (ok .hubs h) (asked c) tt;
+        given = λ h t l x m. there (ok .given h t l x m);
+        once = ok .once;
+        made = λ t p d m. new m (λ e. clash (cc)) (ok .made t p d);
+      }
+  act-fits (raise {h} {t} is lt) =
+      turned-fits h _ (raise is lt)
+      (keeps-raise (ok .hubs h) t lt)
+      (λ g ne. keeps-event (ok .hubs g) _ ne)
+      (λ k p c m. new m (λ e. clash (cc)) (λ old. made-turned _ h _ (owns-raise lt) (ok .made k p c old)))
+  act-fits (give {h} {l} is un) =
+      given-fits h l (give is un)
+      (λ g t m n x y a b.
+      new a
+      (λ e. new b (λ e′. cc) (λ old. absurd (un n y (as-in (cc) old))))
+      (λ old. new b (λ e. absurd (un m x (as-in (cc) old))) (ok .once g t m n x y old)))
+  act-fits (make Q seen is l pick un) = made-fits l (make Q seen is l pick un)
+  act-fits (take {h} {p} {c} is m) =
+      turned-fits h _ (take is m)
+      (keeps-vote (ok .hubs h) p c (ok .run) m)
+      (λ g ne. keeps-event (ok .hubs g) _ ne)
+      (λ k q d n. new n (λ e. clash (cc)) (λ old. made-turned _ h _ (owns-vote (ok .run) m old) (ok .made k q d old)))
+  act-fits (say {h} w more all) =
+      turned-fits h _ (say w more all) (keeps-say (ok .hubs h) w all) (λ g ne. ok .hubs g)
+      (λ t p c m. made-turned _ h _ (λ o. record { up = o .up; mine = o .mine }) (ok .made t p c m))

@@ -1,0 +1,5 @@
+pub mod Hall
+pub mod Fits
+pub mod Acts
+pub mod Moves
+pub mod Best
