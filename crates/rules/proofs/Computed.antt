@@ -5,7 +5,6 @@ use Rattle.text.specs.Decimal.{digits, decimal, moreDigits, number}
 use Rattle.text.specs.Hex.{hexDigit, hex, nibble, hexByte, hexBytes}
 use Rattle.text.specs.Line.{lineText, line}
 use Rattle.text.specs.Reader.{onward, literal, whole}
-use Rattle.command.specs.Case.{commandIs}
 use Rattle.command.specs.Command.{isGain, isDuration, isZero, isStop, isBuzz, isRamp, legalCommand, commandBytes, commandOf}
 use Rattle.command.specs.Entry.{legalEntries}
 use Rattle.command.specs.Proposal.{proposable, readProposal}
@@ -26,5 +25,5 @@ use Rattle.rules.specs.Row.{Row}
 
 -- `holds`: whoever unfolds this one has all the definitions below it unfolded.
 unfoldable pub computed : Row → Bool
-unfolding between isSize isHub limit text-room digits decimal moreDigits number hexDigit hex nibble hexByte hexBytes lineText line onward literal whole commandIs isGain isDuration isZero isStop isBuzz isRamp legalCommand commandBytes commandOf legalEntries proposable readProposal word value part wordAt signed unsigned ownFields fields typeOf ownNumbers numbers countIn bodyOf messageOf legalTo legalBody legalMessage entriesOf linesText entryText entriesText text typeAmong types lines entry entries message ifLegal read partFrom partTo state-size roleOf votersOf gatheredOf confirmedOf flags bytesOf row headBytes image rowsIn keptIn wordsIn lostIn stateIn same readState readKept all count legalKept legalPair legalCandidate legalLeader legalLost legalState fresh reported isLeader isCandidate termAt says withTerm leads started asks start withEntry proposeLeading propose sends send restart confirmedBy largest majorityPlace vote gather joined counted heardYes fits replaced taken heardAppend recorded heardEnd rule isMisaddressed isRequest isStale staleReply contradicts raised afterRaise atOwnTerm receive holds eventOf refusal over written answer receiving acting keptAlone seen atState atEvent stepOf
+unfolding between isSize isHub limit text-room digits decimal moreDigits number hexDigit hex nibble hexByte hexBytes lineText line onward literal whole isGain isDuration isZero isStop isBuzz isRamp legalCommand commandBytes commandOf legalEntries proposable readProposal word value part wordAt signed unsigned ownFields fields typeOf ownNumbers numbers countIn bodyOf messageOf legalTo legalBody legalMessage entriesOf linesText entryText entriesText text typeAmong types lines entry entries message ifLegal read partFrom partTo state-size roleOf votersOf gatheredOf confirmedOf flags bytesOf row headBytes image rowsIn keptIn wordsIn lostIn stateIn same readState readKept all count legalKept legalPair legalCandidate legalLeader legalLost legalState fresh reported isLeader isCandidate termAt says withTerm leads started asks start withEntry proposeLeading propose sends send restart confirmedBy largest majorityPlace vote gather joined counted heardYes fits replaced taken heardAppend recorded heardEnd rule isMisaddressed isRequest isStale staleReply contradicts raised afterRaise atOwnTerm receive holds eventOf refusal over written answer receiving acting keptAlone seen atState atEvent stepOf
 computed r = holds r

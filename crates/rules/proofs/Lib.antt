@@ -1,2 +1,16 @@
+pub mod BoolLaws
+pub mod CountLaws
+pub mod EntryLaws
+pub mod LegalLaws
+pub mod MajorityLaws
+pub mod Fair
+pub mod MessageLaws
+pub mod EventsLaws
+pub mod EndLaws
+pub mod AppendLaws
+pub mod GatherLaws
+pub mod ReceiveLaws
+pub mod Theorems
+pub mod StepLaws
 pub mod Computed
 pub mod Cases

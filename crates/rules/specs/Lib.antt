@@ -3,6 +3,8 @@ pub mod Majority
 pub mod Events
 pub mod Receive
 pub mod Step
+pub mod Happens
+pub mod Theorems
 pub mod Row
 pub mod Samples
 pub mod Cases

@@ -1,0 +1,156 @@
+-- What holds of every call, and of every event at every legal state: the statements. Their proofs stand in proofs/Theorems. Assumes nothing.
+use Prim.Native.Nat.{ℕ, _+_, _≤_, _<_}
+use mathlib.Core.Path.{_≡_}
+use mathlib.Core.Logic.{_↔_}
+use mathlib.Core.Bool.{true, false}
+use mathlib.Core.List.{List}
+use mathlib.Core.Option.{Option, none, some}
+use lib.ListN.{length}
+use Rattle.kinds.specs.Sizes.{Who, isSize, isHub, term-most, limit, text-room}
+use Rattle.command.specs.Command.{Command}
+use Rattle.command.specs.Proposal.{readProposal}
+use Rattle.message.specs.Message.{Message}
+use Rattle.message.specs.Legal.{legalMessage}
+use Rattle.state.specs.State.{Kept, leader, State, fresh}
+use Rattle.state.specs.Legal.{legalState}
+use Rattle.state.specs.Image.{image}
+use Rattle.rules.specs.Outcome.{done, stale, nothing-new}
+use Rattle.rules.specs.Majority.{confirmedBy, majorityPlace}
+use Rattle.rules.specs.Events.{isLeader, len}
+use Rattle.rules.specs.Receive.{Effect, idle, effect, rule, isMisaddressed, isStale, contradicts}
+use Rattle.rules.specs.Step.{Call, Answer, Event, eventOf, over, written, seen, answer, stepOf}
+use Rattle.rules.specs.Happens.{Occasion, to-start, to-propose, to-send, to-restart, to-receive, happens, occasionOf, Meets}
+
+-- ---- words
+
+-- No kept part falls: term, ballot, chosen, the log's length.
+pub record Grows (k next : Kept) : Type 0 where
+  pub term : k .term ≤ next .term
+  pub ballot : k .ballot ≤ next .ballot
+  pub chosen : k .chosen ≤ next .chosen
+  pub log : length (k .log) ≤ length (next .log)
+
+-- A legal message with the hub itself as from and its term after the step.
+pub record Says (w : Who) (next : State) (m : Message) : Type 0 where
+  pub legal : legalMessage m ≡ true
+  pub from : m .from ≡ w .own
+  pub term : m .term ≡ next .kept .term
+
+-- The rules change nothing in the state and write no message.
+abbrev pub ChangesNothing : State → Effect → Type 0
+ChangesNothing s idle = Unit {0}
+ChangesNothing s (effect next message) = (next ≡ s) × (message ≡ none)
+
+-- A message of own term, refused for no other reason, for which the rules change nothing and write nothing.
+pub record NothingNew (w : Who) (s : State) (m : Message) : Type 0 where
+  pub addressed : isMisaddressed w m ≡ false
+  pub fresh : isStale s m ≡ false
+  pub own-term : m .term ≡ s .kept .term
+  pub agrees : contradicts s (m .body) ≡ false
+  pub unchanged : ChangesNothing s (rule w s (m .from) (m .body))
+
+-- Confirmed by a majority, unless it is 0; a place of a log; and the largest such.
+pub record LargestConfirmed (n : ℕ) (confirmed : List ℕ) (place : ℕ) : Type 0 where
+  pub has : 1 ≤ place → confirmedBy n confirmed place ≡ true
+  pub most : place ≤ limit
+  pub none-above : (p : ℕ) → place < p → p ≤ limit → confirmedBy n confirmed p ≡ false
+
+-- What a call leaves, whatever it brings: where it takes effect the image of a legal state, else the bytes that were there; and over the
+-- output the text of a legal message, or nothing.
+pub record Leaves (c : Call) (a : Answer) : Type 0 where
+  pub next : a .outcome ≡ done → (s : State) × (legalState (c .who) s ≡ true) × (a .state ≡ image s)
+  pub stays : (a .outcome ≡ done → ⊥) → a .state ≡ c .state
+  pub message : Option Message
+  pub legal : (m : Message) → message ≡ some m → legalMessage m ≡ true
+  pub wrote : a .wrote ≡ length (written message)
+  pub output : a .output ≡ over (written message) (c .output)
+  pub silent : (a .outcome ≡ done → ⊥) → (a .outcome ≡ stale → ⊥) → message ≡ none
+
+-- ---- every call
+
+-- Every call leaves what is legal.
+abbrev pub CallLeavesLegal : Type 0
+CallLeavesLegal = (c : Call) → Leaves c (stepOf c)
+
+-- The step does what happens, once the numbers, the state and the output are as they have to be and a message is read.
+abbrev pub StepIsWhatHappens : Type 0
+StepIsWhatHappens =
+    (c : Call) (e : Event) (s : State) (o : Occasion) → eventOf (c .event) ≡ some e → isSize (c .who .size) ≡ true → isHub (c .who .size) (c .who .own) ≡ true
+    → seen (c .who) e (c .state) ≡ some s → text-room ≤ length (c .output) → occasionOf c e ≡ some o
+    → stepOf c ≡ answer c (happens (c .who) s o)
+
+-- ---- every event
+
+-- A fresh hub is legal.
+abbrev pub FreshIsLegal : Type 0
+FreshIsLegal = (w : Who) → legalState w fresh ≡ true
+
+-- The next state is legal.
+abbrev pub NextIsLegal : Type 0
+NextIsLegal = (w : Who) (s : State) (o : Occasion) → Meets w s o → legalState w (happens w s o .state) ≡ true
+
+-- Kept parts never fall.
+abbrev pub NothingFalls : Type 0
+NothingFalls = (w : Who) (s : State) (o : Occasion) → Meets w s o → Grows (s .kept) (happens w s o .state .kept)
+
+-- A written message is legal, the replies to stale messages too.
+abbrev pub MessageIsLegal : Type 0
+MessageIsLegal =
+    (w : Who) (s : State) (o : Occasion) → Meets w s o
+    → (m : Message) → happens w s o .message ≡ some m → Says w (happens w s o .state) m
+
+-- All outcomes but 0 leave the state.
+abbrev pub RefusalLeaves : Type 0
+RefusalLeaves = (w : Who) (s : State) (o : Occasion) → Meets w s o → (happens w s o .outcome ≡ done → ⊥) → happens w s o .state ≡ s
+
+-- No refusal but outcome 6 writes.
+abbrev pub RefusalIsSilent : Type 0
+RefusalIsSilent =
+    (w : Who) (s : State) (o : Occasion) → Meets w s o
+    → (happens w s o .outcome ≡ done → ⊥) → (happens w s o .outcome ≡ stale → ⊥) → happens w s o .message ≡ none
+
+-- ---- receive
+
+-- Outcome 13 is given exactly where there is nothing new.
+abbrev pub ThirteenExactly : Type 0
+ThirteenExactly =
+    (w : Who) (s : State) (m : Message) → Meets w s (to-receive m) → (happens w s (to-receive m) .outcome ≡ nothing-new) ↔ NothingNew w s m
+
+-- The place that a leader takes as chosen is what 01 says, whatever is confirmed.
+abbrev pub MajorityPlaceIsLargest : Type 0
+MajorityPlaceIsLargest = (n : ℕ) (confirmed : List ℕ) → LargestConfirmed n confirmed (majorityPlace n confirmed)
+
+-- It lies within a legal leader's log.
+abbrev pub MajorityPlaceInLog : Type 0
+MajorityPlaceInLog =
+    (w : Who) (s : State) (confirmed : List ℕ) → legalState w s ≡ true → s .lost ≡ leader confirmed → majorityPlace (w .size) confirmed ≤ len s
+
+-- ---- an event takes effect where 01 permits it
+
+-- A start below the last term at a hub that does not lead.
+abbrev pub StartTakesEffect : Type 0
+StartTakesEffect =
+    (w : Who) (s : State) → isLeader s ≡ false → s .kept .term < term-most
+    → (happens w s to-start .outcome ≡ done) × (happens w s to-start .state .kept .term ≡ s .kept .term + 1)
+
+-- A proposal of bytes that are a command which may be proposed, at a leader with room.
+abbrev pub ProposeTakesEffect : Type 0
+ProposeTakesEffect =
+    (w : Who) (s : State) (bytes : List ℕ) (c : Command) → isLeader s ≡ true → readProposal bytes ≡ some c → len s < limit
+    → (happens w s (to-propose bytes) .outcome ≡ done) × (len (happens w s (to-propose bytes) .state) ≡ len s + 1)
+
+-- A send to another hub, from a prev in 0..length, at a leader.
+abbrev pub SendTakesEffect : Type 0
+SendTakesEffect =
+    (w : Who) (s : State) (peer prev : ℕ) → isLeader s ≡ true → isHub (w .size) peer ≡ true → (peer ≡ w .own → ⊥) → prev ≤ len s
+    → happens w s (to-send peer prev) .outcome ≡ done
+
+-- A restart.
+abbrev pub RestartTakesEffect : Type 0
+RestartTakesEffect = (w : Who) (s : State) → happens w s to-restart .outcome ≡ done
+
+-- A message of a higher term, whatever it says.
+abbrev pub HigherTermTakesEffect : Type 0
+HigherTermTakesEffect =
+    (w : Who) (s : State) (m : Message) → isMisaddressed w m ≡ false → s .kept .term < m .term
+    → (happens w s (to-receive m) .outcome ≡ done) × (happens w s (to-receive m) .state .kept .term ≡ m .term)
