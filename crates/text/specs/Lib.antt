@@ -2,4 +2,8 @@ pub mod Ascii
 pub mod Reader
 pub mod Decimal
 pub mod Hex
+pub mod HexWords
 pub mod Line
+pub mod Range
+pub mod Found
+pub mod Wrote

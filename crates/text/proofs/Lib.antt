@@ -1,0 +1,9 @@
+pub mod BetweenLaws
+pub mod ReaderLaws
+pub mod DecimalLaws
+pub mod LineLaws
+pub mod HexLaws
+pub mod RangeLaws
+pub mod FoundLaws
+pub mod HexWordsLaws
+pub mod WroteLaws

@@ -1,0 +1,41 @@
+-- What the code's answers say of what a reader finds in a text s: the value, and the place up to which it was read; or that it finds nothing.
+-- A value and a place fix one another: no second answer says the same of one find. Assumes nothing.
+use Prim.Native.Nat.{ℕ, _≤_}
+use mathlib.Core.List.{List, _++_}
+use mathlib.Core.Path.{_≡_}
+use lib.ListN.{length, drop}
+use Rattle.text.specs.HexWords.{bytesOf}
+use Rattle.text.specs.Reader.{Got, got, lost}
+use Rattle.text.specs.declared.Next.{Next}
+use Rattle.text.specs.declared.Next.the-variants.{At, Bad as Next·Bad}
+use Rattle.text.specs.declared.Number.{Number}
+use Rattle.text.specs.declared.Number.the-variants.{Is, Bad as Number·Bad}
+use Rattle.text.specs.declared.Word.{Word}
+use Rattle.text.specs.declared.Word.the-variants.{Is as Word·Is, Bad as Word·Bad}
+use Rattle.text.specs.declared.Words.{Words}
+use Rattle.text.specs.declared.Words.the-variants.{Are, Bad as Words·Bad}
+
+-- The reader found a, and left what stands in s from the place n on.
+pub record Found {A : Type 0} (s : List ℕ) (g : Got A) (a : A) (n : ℕ) : Type 0 where
+  pub inside : n ≤ length s
+  pub read : g ≡ got a (drop n s)
+
+-- A text that has no value of its own.
+abbrev pub FoundNext : List ℕ → Got (Unit {0}) → Next → Type 0
+FoundNext s g (At n) = Found s g tt n
+FoundNext s g Next·Bad = g ≡ lost
+
+-- A number.
+abbrev pub FoundNumber : List ℕ → Got ℕ → Number → Type 0
+FoundNumber s g (Is x n) = Found s g x n
+FoundNumber s g Number·Bad = g ≡ lost
+
+-- Four bytes, as a word.
+abbrev pub FoundWord : List ℕ → ℕ → Got (List ℕ) → Word → Type 0
+FoundWord s n g (Word·Is w) = Found s g (bytesOf w) n
+FoundWord s n g Word·Bad = g ≡ lost
+
+-- Sixteen bytes, as four words.
+abbrev pub FoundWords : List ℕ → Got (List ℕ) → Words → Type 0
+FoundWords s g (Are a b c d n) = Found s g (bytesOf a ++ (bytesOf b ++ (bytesOf c ++ bytesOf d))) n
+FoundWords s g Words·Bad = g ≡ lost
