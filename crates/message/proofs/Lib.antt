@@ -1,0 +1,6 @@
+pub mod FieldsLaws
+pub mod LegalLaws
+pub mod TextLaws
+pub mod ReadLaws
+pub mod RangeLegal
+pub mod RangeLaws
