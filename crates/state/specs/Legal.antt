@@ -5,7 +5,7 @@ use mathlib.Core.Bool.{Bool, true, false, _&&_, _||_, not}
 use mathlib.Core.List.{List, [], _∷_}
 use lib.Dec.{leb, ltb, eqb}
 use lib.ListN.{length, drop, getD}
-use Rattle.kinds.specs.Sizes.{Who, hubs-most, majority, term-most, limit}
+use Rattle.kinds.specs.Sizes.{between, Who, hubs-most, majority, term-most, limit}
 use Rattle.command.specs.Command.{legalCommand}
 use Rattle.command.specs.Entry.{legalEntries}
 use Rattle.state.specs.State.{Kept, Pair, Lost, follower, candidate, leader, State}

@@ -1,3 +1,6 @@
 pub mod State
 pub mod Legal
 pub mod Image
+pub mod Head
+pub mod Table
+pub mod Check
