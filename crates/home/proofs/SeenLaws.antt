@@ -1,0 +1,121 @@
+-- What a log counts as at each place, and lists over the seven hubs. Assumes nothing.
+use Prim.Native.Nat.{ℕ, zero, suc, _-_, _≤_, _<_}
+use native.Mathlib.Omega.{arith}
+use native.Mathlib.Decide.{ℕ-discrete}
+use mathlib.Core.Path.{_≡_, refl, ap, fun-ext}
+use mathlib.Core.Logic.{_≢_}
+use mathlib.Core.Bool.{Bool, true, false}
+use mathlib.Core.List.{List, []}
+use mathlib.Core.Option.{Option, none, some}
+use lib.ListN.{length, getElem?, getD, set, replicate}
+use lib.Seq.{getD-set-same, getD-set-other}
+use Rattle.kinds.specs.Sizes.{between}
+use Rattle.command.specs.Command.{Command}
+use Rattle.command.specs.Entry.{Entry}
+use Rattle.state.specs.State.{fresh}
+use Rattle.rules.specs.Events.{forHub, setHub}
+use Rattle.rules.proofs.EntryLaws.{between-is, is-between}
+use Rattle.paxos.specs.Put.{put}
+use Rattle.paxos.specs.Paxos.{never, at}
+use Rattle.paxos.proofs.PutLaws.{put-same, put-other}
+use Rattle.paxos.proofs.Member.{clash}
+use Rattle.views.specs.Hall.{blank}
+use Rattle.home.specs.Seen.{tells, holdsOf, viewOf, ofHub}
+use Rattle.home.proofs.AtLaws.{at-out}
+
+-- ---- what a log counts as
+
+-- The entry behind something that is told.
+tells-is : (b : ℕ) (x : Option Entry) (k : ℕ) (c : Command) → tells b x ≡ at k c → (k ≡ b) × ((e : Entry) × (x ≡ some e) × (c ≡ e .command))
+tells-is b none k c h = clash (cc)
+tells-is b (some e) k c h = (cc, (e, refl, cc))
+
+-- The entry behind something that is held.
+pub record Held (b : ℕ) (log : List Entry) (p k : ℕ) (c : Command) : Type 0 where
+  pub index : ℕ
+  pub entry : Entry
+  pub place : p ≡ suc index
+  pub is : getElem? log index ≡ some entry
+  pub ballot : k ≡ b
+  pub command : c ≡ entry .command
+
+-- There is one behind whatever is held.
+pub holds-is : (b : ℕ) (log : List Entry) (p k : ℕ) (c : Command) → holdsOf b log p ≡ at k c → Held b log p k c
+unfolding holdsOf
+holds-is b log zero k c h = clash (cc)
+holds-is b log (suc i) k c h =
+    let r = tells-is b (getElem? log i) k c h in
+    record { index = i; entry = r .1 .0; place = refl; is = r .1 .1; ballot = r .0; command = r .1 .2 }
+
+-- An entry of the log is held.
+pub holds-entry : (b : ℕ) (log : List Entry) (i : ℕ) (e : Entry) → getElem? log i ≡ some e → holdsOf b log (suc i) ≡ at b (e .command)
+unfolding holdsOf
+holds-entry b log i e h = ap (tells b) h
+
+-- Beyond the log nothing is held.
+pub holds-none : (b : ℕ) (log : List Entry) (p : ℕ) → length log < p → holdsOf b log p ≡ never
+unfolding holdsOf
+holds-none b log zero lt = refl
+holds-none b log (suc i) lt = ap (tells b) (at-out log i (omega arith))
+
+-- A place that is reported is i + 1 with i below the count of chosen places.
+pub said-lt : (n p : ℕ) → between 1 n p ≡ true → (i : ℕ) × (p ≡ suc i) × (i < n)
+said-lt n zero h = absurd (omega (arith, between-is 1 n 0 h .0))
+said-lt n (suc i) h = (i, refl, omega (arith, between-is 1 n (suc i) h .1))
+
+-- And the other way round.
+pub lt-said : (n i : ℕ) → i < n → between 1 n (suc i) ≡ true
+lt-said n i lt = is-between 1 n (suc i) (omega arith) (omega arith)
+
+-- A fresh hub's view is blank.
+pub fresh-view : blank ≡ viewOf (fresh .kept)
+unfolding fresh holdsOf
+fresh-view = λ i. record { term = 0; holds = fun-ext nothing-held i; says = fun-ext nothing-said i }
+  where
+    nothing-held : (p : ℕ) → never ≡ holdsOf 0 [] p
+    nothing-held zero = refl
+    nothing-held (suc i) = refl
+
+    nothing-said : (p : ℕ) → false ≡ between 1 0 p
+    nothing-said p = by (between 1 0 p) refl
+      where
+        by : (b : Bool) → between 1 0 p ≡ b → false ≡ b
+        by true q = let (i, is, lt) = said-lt 0 p q in absurd (omega arith)
+        by false q = refl
+
+-- ---- lists over the seven hubs
+
+module _ {A : Type 0} where
+  -- A hub's own.
+  pub forHub-is : (l : List A) (x : A) (h : ℕ) → 1 ≤ h → forHub l h x ≡ ofHub l x h
+  unfolding ofHub
+  forHub-is l x zero le = absurd (omega arith)
+  forHub-is l x (suc i) le = let e : suc i - 1 ≡ i = omega arith in ap (λ j. getD l j x) e
+
+  -- Whatever holds of what is set for one hub, and of what stood there for each other, holds for every hub.
+  pub setHub-cases :
+      (P : ℕ → A → Type 0) (l : List A) (x y : A) (h : ℕ) → 1 ≤ h → h ≤ length l
+      → P h y → ((g : ℕ) → g ≢ h → P g (ofHub l x g)) → (g : ℕ) → P g (ofHub (setHub l h y) x g)
+  unfolding ofHub
+  setHub-cases P l x y h low le new old zero = old zero (omega arith)
+  setHub-cases P l x y h low le new old (suc i) = by (ℕ-discrete (suc i) h)
+    where
+      by : Dec (suc i ≡ h) → P (suc i) (getD (set l (h - 1) y) i x)
+      by (yes e) =
+          let here : h - 1 ≡ i = omega arith in
+          rw (here, getD-set-same l i y x (omega arith)) (rw (← e) at new)
+      by (no ne) = rw (getD-set-other l (h - 1) i y x (omega arith)) (old (suc i) ne)
+
+  -- So the set is changed at that hub.
+  pub setHub-put : (l : List A) (x y : A) (h : ℕ) → 1 ≤ h → h ≤ length l → put (ofHub l x) h y ≡ ofHub (setHub l h y) x
+  setHub-put l x y h low le =
+      fun-ext
+      (setHub-cases (λ g z. put (ofHub l x) h y g ≡ z) l x y h low le (put-same (ofHub l x) h y) (λ g ne. put-other (ofHub l x) h y g ne))
+
+  -- The same for all hubs.
+  pub ofHub-replicate : (n : ℕ) (x : A) (g : ℕ) → ofHub (replicate n x) x g ≡ x
+  unfolding ofHub
+  ofHub-replicate n x zero = refl
+  ofHub-replicate zero x (suc i) = refl
+  ofHub-replicate (suc n) x (suc zero) = refl
+  ofHub-replicate (suc n) x (suc (suc i)) = ofHub-replicate n x (suc i)

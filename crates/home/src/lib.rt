@@ -1,0 +1,1 @@
+// Runs of a home, and why they are safe: definitions and theorems, no code.
