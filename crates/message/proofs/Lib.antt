@@ -1,6 +1,12 @@
+pub mod TypeLaws
+pub mod LinesLaws
+pub mod CaseLaws
+pub mod EntryLaws
 pub mod FieldsLaws
 pub mod LegalLaws
 pub mod TextLaws
 pub mod ReadLaws
 pub mod RangeLegal
 pub mod RangeLaws
+pub mod OpeningLaws
+pub mod AnswerLaws

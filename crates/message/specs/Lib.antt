@@ -3,3 +3,8 @@ pub mod Legal
 pub mod Fields
 pub mod Text
 pub mod Range
+pub mod Opening
+pub mod Walk
+pub mod Answer
+pub mod Found
+pub mod Part

@@ -1,0 +1,12 @@
+-- A part of a lent slice, handed back where it lies. Assumes nothing.
+use Prim.Native.Nat.{ℕ, _+_, _-_}
+use mathlib.Core.List.{List}
+use mathlib.Core.Path.{_≡_}
+use lib.ListN.{take, drop}
+use denote.Ref.{RefT}
+
+-- r is the part of s from a to e itself, and no copy: it starts a bytes behind the start of s, in the same block.
+pub record IsPart (s : RefT (List ℕ)) (a e : ℕ) (r : RefT (List ℕ)) : Type 0 where
+  pub bytes : r .now ≡ take (e - a) (drop a (s .now))
+  pub block : r .ptr .0 ≡ s .ptr .0
+  pub place : r .ptr .1 ≡ s .ptr .1 + a
