@@ -63,6 +63,40 @@ uint32_t kritnamon_read_command(const uint8_t *bytes, size_t length, uint32_t *n
 uint32_t kritnamon_write_command(uint32_t motor, uint32_t kind, int32_t duration, uint32_t a, uint32_t b,
                                  uint8_t *out, size_t length);
 
+/* ---- Messages: lines `key=value`, each ended by LF, at most 16,384 bytes. */
+
+#define KRITNAMON_TEXT_MOST 16384u
+
+/* Types, in the order of the rules. */
+#define KRITNAMON_VOTE_REQUEST 1u  /* own numbers: last, ballot */
+#define KRITNAMON_VOTE_YES     2u  /* own numbers: last, ballot; entries */
+#define KRITNAMON_VOTE_NO      3u
+#define KRITNAMON_APPEND       4u  /* own numbers: prev, prevterm, chosen; entries */
+#define KRITNAMON_APPEND_YES   5u  /* own number: end */
+#define KRITNAMON_APPEND_NO    6u  /* own number: length */
+
+/* Where a message's numbers stand, and how many there are. A number that the type does not have is 0. */
+#define KRITNAMON_TYPE   0u
+#define KRITNAMON_TERM   1u
+#define KRITNAMON_FROM   2u
+#define KRITNAMON_TO     3u
+#define KRITNAMON_OWN_1  4u
+#define KRITNAMON_OWN_2  5u
+#define KRITNAMON_OWN_3  6u
+#define KRITNAMON_COUNT  7u
+#define KRITNAMON_MESSAGE_NUMBERS 8u
+
+/* The two halves of an answer that has a second number beside its outcome. */
+#define KRITNAMON_OUTCOME(answer) ((uint32_t)((answer) & 0xffffffffu))
+#define KRITNAMON_SECOND(answer)  ((uint32_t)((answer) >> 32))
+
+/* Reads the message in `text` into the first eight of `numbers`; those behind them stay.
+ * KRITNAMON_OUTCOME of what is returned is KRITNAMON_SHORT_OUTPUT if count is below 8, then KRITNAMON_BAD_MESSAGE if the text is not that of a
+ * legal message; either leaves all numbers, with 0 as KRITNAMON_SECOND. Else it is KRITNAMON_DONE, and KRITNAMON_SECOND is the offset
+ * in `text` at which the entry lines begin; they go to its end, and without entry lines the offset is the text's length.
+ * Proved: kritnamon_read_message in crates/kritnamon. */
+uint64_t kritnamon_read_message(const uint8_t *text, size_t length, uint32_t *numbers, size_t count);
+
 #ifdef __cplusplus
 }
 #endif

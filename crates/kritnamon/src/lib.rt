@@ -1,6 +1,24 @@
 // What the hub firmware calls, with numbers and byte slices only. Each function here is one of the crates below under its name for C.
 ghost use mathlib.Core.Path.{_≡_};
+ghost use mathlib.Core.List.{[], _∷_};
+ghost use Prim.Native.Nat.{_≤_};
+ghost use lib.ListN.{length};
+ghost use lib.Seq.{sets};
 ghost use Rattle.command.specs.Answers.{Answers, written, told, commandWith};
+ghost use Rattle.kritnamon.specs.Message.{Tells, tells};
+ghost use Rattle.kritnamon.specs.Numbers.{kindIn, ownIn, numbersIn};
+use message::Body;
+use message::Fields;
+use message::Read;
+
+// Document 01's outcomes.
+const SHORT_OUTPUT: u64 = 3;
+
+const BAD_MESSAGE: u64 = 4;
+// How many numbers a message has.
+const MESSAGE_NUMBERS: usize = 8;
+// What stands above an outcome is counted in these.
+const UPPER: u64 = 4294967296;
 
 // Reads a command's 16 bytes into the first five lent numbers: motor, kind, duration, a and b. A refusal (3: fewer than five numbers
 // lent; 10: not a legal command) leaves them all.
@@ -24,4 +42,84 @@ pub extern "C" fn kritnamon_write_command(
     ensures { λ r. ⌜ Answers (written (commandWith motor kind duration a b) (now (out .entry))) r (now (out .exit)) ⌝ }
 {
     command::write_numbers(motor, kind, duration, a, b, out)
+}
+
+// The number of a message's type.
+fn kind_of(body: Body) -> u32
+    ensures { λ r. ⌜ r ≡ kindIn body ⌝ }
+{
+    match body {
+        Body::VoteRequest { last: _, ballot: _ } => 1,
+        Body::VoteYes {
+            last: _,
+            ballot: _,
+            count: _,
+        } => 2,
+        Body::VoteNo => 3,
+        Body::Append {
+            prev: _,
+            prevterm: _,
+            chosen: _,
+            count: _,
+        } => 4,
+        Body::AppendYes { end: _ } => 5,
+        Body::AppendNo { length: _ } => 6,
+    }
+}
+
+// The numbers of a type's own, and the count of its entries.
+fn own_of(body: Body) -> [u32; 4]
+    ensures { λ r. ⌜ r ≡ ownIn body ⌝ }
+{
+    match body {
+        Body::VoteRequest { last, ballot } => [last.number(), ballot.number(), 0, 0],
+        Body::VoteYes {
+            last,
+            ballot,
+            count,
+        } => [last.number(), ballot.number(), 0, count],
+        Body::VoteNo => [0, 0, 0, 0],
+        Body::Append {
+            prev,
+            prevterm,
+            chosen,
+            count,
+        } => [prev.number(), prevterm.number(), chosen.number(), count],
+        Body::AppendYes { end } => [end.number(), 0, 0, 0],
+        Body::AppendNo { length } => [length.number(), 0, 0, 0],
+    }
+}
+
+// Puts a message's numbers into the first eight lent ones.
+fn put_fields(f: Fields, numbers: &mut [u32])
+    requires { ⌜ 8 ≤ length (now numbers) ⌝ }
+    ensures { λ _. ⌜ now (numbers .exit) ≡ sets (now (numbers .entry)) 0 (numbersIn f) ⌝ }
+{
+    let body = f.body;
+    let own = own_of(body);
+    numbers[0] = kind_of(body);
+    numbers[1] = f.term.number();
+    numbers[2] = f.from.number();
+    numbers[3] = f.to.number();
+    numbers[4] = own[0];
+    numbers[5] = own[1];
+    numbers[6] = own[2];
+    numbers[7] = own[3];
+}
+
+// Reads a message's text into the first eight lent numbers: type, term, from, to, up to three of the type's own, and the count of its
+// entries. The upper half of what is returned is where the entry lines begin in the text; they go to its end. A refusal (3: fewer than
+// eight numbers lent; 4: not a legal message) leaves all numbers, and its upper half is 0.
+#[no_mangle]
+pub extern "C" fn kritnamon_read_message(text: &[u8], numbers: &mut [u32]) -> u64
+    ensures { λ r. ⌜ Tells (tells (now (text .entry)) (now (numbers .entry))) r (now (numbers .exit)) ⌝ }
+{
+    if numbers.len() < MESSAGE_NUMBERS {
+        return SHORT_OUTPUT;
+    }
+    let Read::Message { fields, entries } = message::read_message(text) else {
+        return BAD_MESSAGE;
+    };
+    put_fields(fields, numbers);
+    (entries as u64) * UPPER
 }

@@ -1,6 +1,8 @@
 //! The proved library's functions, as safe Rust. Slices pass as a pointer and a length.
 //! Beside them what every comparison uses: a small random number generator, and lent bytes that are watched.
 
+pub mod cpu;
+pub mod messages;
 pub mod rng;
 pub mod watched;
 
@@ -21,6 +23,7 @@ mod library {
             out: *mut u8,
             length: usize,
         ) -> u32;
+        pub fn kritnamon_read_message(text: *const u8, length: usize, fields: *mut u32, count: usize) -> u64;
     }
 }
 
@@ -36,4 +39,17 @@ pub fn read_command(bytes: &[u8], numbers: &mut [u32]) -> u32 {
 pub fn write_command(motor: u32, kind: u32, duration: i32, a: u32, b: u32, out: &mut [u8]) -> u32 {
     // SAFETY: pointer and length are those of one slice, lent to this call alone.
     unsafe { library::kritnamon_write_command(motor, kind, duration, a, b, out.as_mut_ptr(), out.len()) }
+}
+
+/// The two halves of an answer: the outcome, and the number above it.
+fn halves(answer: u64) -> (u32, u32) {
+    (answer as u32, (answer >> 32) as u32)
+}
+
+/// Reads a message alone, into lent numbers: type, term, from, to, and its own. Answers the outcome and where the entry lines begin.
+pub fn read_message(text: &[u8], fields: &mut [u32]) -> (u32, u32) {
+    // SAFETY: each pointer and length are those of one slice, the second lent to this call alone.
+    halves(unsafe {
+        library::kritnamon_read_message(text.as_ptr(), text.len(), fields.as_mut_ptr(), fields.len())
+    })
 }

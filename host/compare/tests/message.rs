@@ -1,0 +1,204 @@
+//! Messages, read alone: the proved library and the independent program give the same answers, find the entry lines at the same place,
+//! and leave the same numbers. `KRITNAMON_ROUNDS=50` makes a longer run of it, `KRITNAMON_SEED` another one.
+
+use compare::messages::{FIELDS, ROOM, fields_of, random, shapes};
+use compare::read_message;
+use compare::rng::{Rng, rounds, seed};
+use independent::message;
+
+/// What stands in lent numbers before a call.
+const BEFORE: [u32; FIELDS + 2] = [91, 92, 93, 94, 95, 96, 97, 98, 99, 100];
+
+/// Reads a text with both, and counts as one comparison.
+fn compare_read(text: &[u8]) -> u64 {
+    let mut ours = BEFORE;
+    let (outcome, from) = read_message(text, &mut ours);
+    let reading = message::read(text);
+    let mut theirs = BEFORE;
+    let expected = match reading.message {
+        Ok(message) => {
+            theirs[..FIELDS].copy_from_slice(&fields_of(&message));
+            0
+        }
+        Err(outcome) => outcome.number(),
+    };
+    let place = reading.entries.as_ptr() as usize - text.as_ptr() as usize;
+    let shown = String::from_utf8_lossy(&text[..text.len().min(400)]);
+    assert_eq!((outcome, from as usize), (expected, place), "{shown}");
+    assert_eq!(ours, theirs, "{shown}");
+    1
+}
+
+/// Bytes that a changed byte becomes: digits, signs, hex of both cases, line ends, and far ones.
+const OTHERS: [u8; 10] = [b'0', b'1', b'9', b'a', b'F', b'-', b'\n', b'\r', 0, 0xff];
+
+fn changed_at(text: &[u8], at: usize) -> u64 {
+    let mut changed = text.to_vec();
+    let mut done = 0;
+    for other in OTHERS {
+        changed[at] = other;
+        done += compare_read(&changed);
+    }
+    done
+}
+
+/// The places of a text to look at: all of a short one; of a long one its beginning, its end, and some between.
+fn places(text: &[u8]) -> impl Iterator<Item = usize> + '_ {
+    let long = text.len() > 700;
+    (0..text.len()).filter(move |&at| !long || at < 200 || at + 100 > text.len() || at % 97 == 0)
+}
+
+#[test]
+fn every_shape_is_read_alike() {
+    for sample in shapes() {
+        let text = sample.text();
+        compare_read(&text);
+        assert_eq!(message::read(&text).message.map(|message| fields_of(&message)), Ok(sample.fields));
+    }
+}
+
+#[test]
+fn every_changed_byte_is_read_alike() {
+    let mut done = 0;
+    for sample in shapes() {
+        let text = sample.text();
+        done += places(&text).map(|at| changed_at(&text, at)).sum::<u64>();
+    }
+    println!("{done} comparisons");
+    assert!(done > 150_000);
+}
+
+#[test]
+fn every_truncation_is_read_alike() {
+    let mut done = 0;
+    for sample in shapes() {
+        let text = sample.text();
+        done += places(&text).map(|at| compare_read(&text[..at])).sum::<u64>();
+    }
+    println!("{done} comparisons");
+    assert!(done > 15_000);
+}
+
+/// A text's lines, with their ends.
+fn lines(text: &[u8]) -> Vec<&[u8]> {
+    text.split_inclusive(|&byte| byte == b'\n').collect()
+}
+
+#[test]
+fn doubled_missing_and_exchanged_lines_are_read_alike() {
+    let mut done = 0;
+    for sample in shapes() {
+        let text = sample.text();
+        let all = lines(&text);
+        for at in 0..all.len().min(12) {
+            let mut doubled = all.clone();
+            doubled.insert(at, all[at]);
+            done += compare_read(&doubled.concat());
+            let mut missing = all.clone();
+            missing.remove(at);
+            done += compare_read(&missing.concat());
+            let mut exchanged = all.clone();
+            exchanged.swap(at, (at + 1) % all.len());
+            done += compare_read(&exchanged.concat());
+        }
+    }
+    println!("{done} comparisons");
+    assert!(done > 2_000);
+}
+
+/// Numbers as they must not be written, and numbers at and past every edge.
+const NUMBERS: [&str; 24] = [
+    "",
+    "0",
+    "1",
+    "2",
+    "7",
+    "8",
+    "00",
+    "01",
+    "+1",
+    "-1",
+    " 1",
+    "1 ",
+    "0x1",
+    "255",
+    "256",
+    "257",
+    "258",
+    "4294967294",
+    "4294967295",
+    "4294967296",
+    "18446744073709551616",
+    "99999999999999999999999999",
+    "1e3",
+    "1.0",
+];
+
+#[test]
+fn other_numbers_are_read_alike() {
+    let mut done = 0;
+    for sample in shapes() {
+        let text = sample.text();
+        let all = lines(&text);
+        for at in 1..all.len().min(10) {
+            let Some(key) = all[at].iter().position(|&byte| byte == b'=') else { continue };
+            let tail = all[at].iter().position(|&byte| byte == b':').unwrap_or(all[at].len() - 1);
+            for number in NUMBERS {
+                let line = [&all[at][..=key], number.as_bytes(), &all[at][tail..]].concat();
+                let changed = [all[..at].concat(), line, all[at + 1..].concat()].concat();
+                done += compare_read(&changed);
+            }
+        }
+    }
+    println!("{done} comparisons");
+    assert!(done > 15_000);
+}
+
+#[test]
+fn other_line_ends_and_trailing_bytes_are_read_alike() {
+    for sample in shapes() {
+        let text = sample.text();
+        let with_cr: Vec<u8> =
+            lines(&text).iter().flat_map(|line| [&line[..line.len() - 1], b"\r\n"].concat()).collect();
+        compare_read(&with_cr);
+        compare_read(&text.to_ascii_uppercase());
+        for tail in [&b"\n"[..], b"\0", b" ", b"type=vote-no\n", b"entry=1:", &text] {
+            compare_read(&[&text, tail].concat());
+        }
+        for length in [ROOM - 1, ROOM, ROOM + 1, 2 * ROOM] {
+            let mut long = text.clone();
+            long.resize(length, b'\n');
+            compare_read(&long);
+        }
+    }
+}
+
+#[test]
+fn random_texts_are_read_alike() {
+    let mut rng = Rng::seeded(seed());
+    let mut done = 0;
+    for _ in 0..10_000 * rounds() {
+        let mut text = random(&mut rng).text();
+        done += compare_read(&text);
+        for _ in 0..1 + rng.below(3) {
+            let at = rng.below(text.len() as u64) as usize;
+            match rng.below(3) {
+                0 => text[at] = rng.pick(&OTHERS),
+                1 => text.insert(at, rng.pick(&OTHERS)),
+                _ => drop(text.remove(at)),
+            }
+            done += compare_read(&text);
+        }
+    }
+    println!("{done} comparisons");
+}
+
+#[test]
+fn few_numbers_are_refused() {
+    let text = shapes()[0].text();
+    for room in 0..FIELDS {
+        let mut numbers = BEFORE[..room].to_vec();
+        assert_eq!(read_message(&text, &mut numbers), (3, 0));
+        assert_eq!(numbers, BEFORE[..room]);
+    }
+}
