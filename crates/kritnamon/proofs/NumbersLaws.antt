@@ -118,3 +118,7 @@ four-listed (a ∷ b ∷ c ∷ d ∷ e ∷ o) h = absurd (omega arith)
 pub eight-put : (numbers o : List ℕ) (k t f d : ℕ) → length o ≡ 4 →
     sets numbers 0 (k ∷ t ∷ f ∷ d ∷ getD o 0 0 ∷ getD o 1 0 ∷ getD o 2 0 ∷ getD o 3 0 ∷ []) ≡ sets numbers 0 (k ∷ t ∷ f ∷ d ∷ o)
 eight-put numbers o k t f d h = ap (λ (l : List ℕ). sets numbers 0 (k ∷ t ∷ f ∷ d ∷ l)) (four-listed o h)
+
+-- Two answers that meet the promise of reading a message are the same.
+pub tells-unique : {t : Told} {r r′ : ℕ} {numbers numbers′ : List ℕ} → Tells t r numbers → Tells t r′ numbers′ → (r ≡ r′) × (numbers ≡ numbers′)
+tells-unique p q = (p .returned ∙ sym (q .returned), p .left ∙ sym (q .left))
