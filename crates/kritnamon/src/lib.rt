@@ -5,6 +5,9 @@ ghost use Prim.Native.Nat.{_≤_};
 ghost use lib.ListN.{length};
 ghost use lib.Seq.{sets};
 ghost use Rattle.command.specs.Answers.{Answers, written, told, commandWith};
+ghost use Rattle.kinds.specs.Sizes.{limit, text-room};
+ghost use Rattle.state.specs.Image.{state-size};
+ghost use Rattle.step.specs.Report.{Reports, reportOf, chosenOf};
 ghost use Rattle.kritnamon.specs.Message.{Tells, tells};
 ghost use Rattle.kritnamon.specs.Numbers.{kindIn, ownIn, numbersIn};
 use message::Body;
@@ -122,4 +125,45 @@ pub extern "C" fn kritnamon_read_message(text: &[u8], numbers: &mut [u32]) -> u6
     };
     put_fields(fields, numbers);
     (entries as u64) * UPPER
+}
+
+// How many bytes a state has.
+#[no_mangle]
+pub extern "C" fn kritnamon_state_size() -> usize
+    ensures { λ r. ⌜ r ≡ state-size ⌝ }
+{
+    state::state_bytes()
+}
+
+// How many places a log has at most.
+#[no_mangle]
+pub extern "C" fn kritnamon_places() -> u32
+    ensures { λ r. ⌜ r ≡ limit ⌝ }
+{
+    state::limit_places()
+}
+
+// The least bytes of an output.
+#[no_mangle]
+pub extern "C" fn kritnamon_output_size() -> usize
+    ensures { λ r. ⌜ r ≡ text-room ⌝ }
+{
+    step::output_bytes()
+}
+
+// How many commands a hub reports, in the upper half of what is returned; or outcome 2 in its lower half if the kept parts are not legal.
+#[no_mangle]
+pub extern "C" fn kritnamon_chosen(state: &[u8]) -> u64
+    ensures { λ r. ⌜ r ≡ chosenOf (now (state .entry)) ⌝ }
+{
+    step::chosen_places(state)
+}
+
+// The command that a hub reports at a place, into the first 16 bytes of `out`. A refusal (2: kept parts not legal; 3: too little room;
+// 12: a place that is not in 1..chosen) leaves every byte.
+#[no_mangle]
+pub extern "C" fn kritnamon_reported(state: &[u8], place: u32, out: &mut [u8]) -> u32
+    ensures { λ r. ⌜ Reports (reportOf (now (state .entry)) place (now (out .entry))) r (now (out .exit)) ⌝ }
+{
+    step::reported_at(state, place, out)
 }

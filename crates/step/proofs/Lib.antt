@@ -1,0 +1,16 @@
+pub mod PromiseLaws
+pub mod GateLaws
+pub mod WordsLaws
+pub mod ClearLaws
+pub mod HeadsLaws
+pub mod LostLaws
+pub mod ConfirmedLaws
+pub mod ProposeLaws
+pub mod EndLaws
+pub mod ReportLaws
+pub mod StepLaws
+pub mod RowLaws
+pub mod LeadLaws
+pub mod GatherLaws
+pub mod TakenLaws
+pub mod AppendLaws

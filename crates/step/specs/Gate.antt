@@ -1,0 +1,24 @@
+-- The tests that stand before every event, in document 01's order. Assumes nothing.
+use Prim.Native.Nat.{ℕ}
+use mathlib.Core.Bool.{Bool, true, false, cond, _&&_, _||_}
+use mathlib.Core.List.{List}
+use mathlib.Core.Option.{Option, none, some}
+use lib.Dec.{ltb, eqb}
+use lib.ListN.{length}
+use Rattle.kinds.specs.Sizes.{Who, between, isSize, isHub, text-room}
+use Rattle.state.specs.Image.{readState, readKept}
+use Rattle.state.specs.Check.{isSome}
+use Rattle.rules.specs.Outcome.{done, not-known, bad-state, short-output}
+
+-- N is 3, 5 or 7, the own number in 1..N, the event one of the five.
+unfoldable pub isKnown : Who → ℕ → Bool
+isKnown w event = isSize (w .size) && (isHub (w .size) (w .own) && between 1 5 event)
+
+-- The state that the event needs is legal: restart, event 4, needs the kept parts alone.
+unfoldable pub isFit : Who → ℕ → List ℕ → Bool
+isFit w event l = cond (eqb event 4) (isSome (readKept l)) (isSome (readState w l))
+
+-- 0, or the refusal.
+unfoldable pub gate : Who → ℕ → List ℕ → List ℕ → ℕ
+gate w event l out =
+    cond (isKnown w event) (cond (isFit w event l) (cond (ltb (length out) text-room) short-output done) bad-state) not-known

@@ -1,0 +1,496 @@
+// One hub's step over lent bytes: the tests before every event, then the event, each as document 01 has it. The head of a state is read once into a
+// struct; the log and the gathered entries stay in the lent bytes.
+ghost use mathlib.Core.Path.{_≡_};
+ghost use mathlib.Core.Bool.{true, false, cond};
+ghost use mathlib.Core.List.{map};
+ghost use Prim.Native.Nat.{_+_, _-_, _*_, _≤_, _<_, max};
+ghost use lib.Dec.{ltb};
+ghost use lib.ListN.{length, replicate, getD, set};
+ghost use lib.Seq.{sets};
+ghost use Rattle.kinds.specs.Of.{place, term};
+ghost use Rattle.kinds.specs.Sizes.{limit, text-room};
+ghost use Rattle.command.specs.Proposal.{readProposal};
+ghost use Rattle.state.specs.Image.{head-size, row-size, state-size, image, keptIn, stateIn, readKept};
+ghost use Rattle.state.specs.Check.{isSome};
+ghost use Rattle.rules.specs.Events.{termAt, started, propose, restart};
+ghost use Rattle.rules.specs.Receive.{raised, fits, heardEnd};
+ghost use Rattle.rules.specs.Majority.{confirmedBy, majorityPlace};
+ghost use Rattle.step.specs.Promise.{whoIn, Ready, Quiet, Ruled, Adds, Starts, Raises, HearsEnd};
+ghost use Rattle.step.specs.Gate.{isKnown, isFit, gate};
+ghost use Rattle.step.specs.Heads.{following, standing, grown, confirming, leading, taking};
+ghost use Rattle.step.specs.Append.{follows, Tested};
+ghost use Rattle.step.specs.Report.{Reports, reportOf, chosenOf};
+ghost use Rattle.step.specs.Words.{wordsAt, wordsBytes, rowWords, renumbered};
+use kinds::Hub;
+use kinds::Place;
+use kinds::Term;
+use state::Head;
+
+// The bytes of the head of a state, and of a row of its table.
+const HEAD: usize = 56;
+
+const ROW: usize = 20;
+// The bytes of a command.
+const COMMAND: usize = 16;
+
+// The least bytes of an output.
+const OUTPUT: usize = 16_384;
+
+// The roles.
+const FOLLOWER: u8 = 0;
+
+const CANDIDATE: u8 = 1;
+
+const LEADER: u8 = 2;
+
+// The event that checks the kept parts alone.
+const RESTART: u32 = 4;
+
+// Document 01's outcomes.
+const DONE: u32 = 0;
+
+const NOT_KNOWN: u32 = 1;
+
+const BAD_STATE: u32 = 2;
+
+const SHORT_OUTPUT: u32 = 3;
+
+const WRONG_ROLE: u32 = 8;
+
+const BAD_COMMAND: u32 = 10;
+
+const LOG_FULL: u32 = 11;
+
+const NOT_REPORTED: u32 = 12;
+
+// The group's size and the own number: what every call says of the hub.
+pub struct Group {
+    pub size: u32,
+    pub own: Hub,
+}
+
+// A command by its four words, as they stand in its bytes; motor and kind share the first.
+pub struct Words {
+    pub what: u32,
+    pub duration: u32,
+    pub a: u32,
+    pub b: u32,
+}
+
+// ---- rows and bytes
+
+// Where row i of the table stands.
+fn row_at(i: u32) -> usize
+    ensures { λ r. ⌜ r ≡ head-size + i * row-size ⌝ }
+{
+    HEAD + (i as usize) * ROW
+}
+
+// The words of the command in the 16 bytes from a place on.
+fn words_at(s: &[u8], at: usize) -> Words
+    requires { ⌜ at + 16 ≤ length (now s) ⌝ }
+    ensures { λ r. ⌜ r ≡ wordsAt at (now (s .entry)) ⌝ }
+{
+    Words {
+        what: command::get32(s, at),
+        duration: command::get32(s, at + 4),
+        a: command::get32(s, at + 8),
+        b: command::get32(s, at + 12),
+    }
+}
+
+// Writes the 16 bytes of a command.
+fn put_words(s: &mut [u8], at: usize, c: Words)
+    requires { ⌜ at + 16 ≤ length (now s) ⌝ }
+    ensures { λ _. ⌜ now (s .exit) ≡ sets (now (s .entry)) at (wordsBytes c) ⌝ }
+{
+    command::put32(s, at, c.what);
+    command::put32(s, at + 4, c.duration);
+    command::put32(s, at + 8, c.a);
+    command::put32(s, at + 12, c.b);
+}
+
+// Writes a row of the table: its number, and its command.
+fn put_row(s: &mut [u8], at: usize, number: u32, c: Words)
+    requires { ⌜ at + 20 ≤ length (now s) ⌝ }
+    ensures { λ _. ⌜ now (s .exit) ≡ sets (now (s .entry)) at (rowWords number c) ⌝ }
+{
+    command::put32(s, at, number);
+    put_words(s, at + 4, c);
+}
+
+// Clears the bytes from one place to another.
+fn clear(s: &mut [u8], from: usize, to: usize)
+    requires { ⌜ (from ≤ to) × (to ≤ length (now s)) ⌝ }
+    ensures { λ _. ⌜ now (s .exit) ≡ sets (now (s .entry)) from (replicate (to - from) 0) ⌝ }
+{
+    let mut i = from;
+    while i < to {
+        s[i] = 0;
+        i += 1;
+    }
+}
+
+// Gives n rows from a place on another number; their commands stay.
+fn renumber(s: &mut [u8], from: usize, n: u32, number: u32)
+    requires { ⌜ from + n * 20 ≤ length (now s) ⌝ }
+    ensures { λ _. ⌜ now (s .exit) ≡ renumbered (now (s .entry)) from n number ⌝ }
+{
+    let mut at = from;
+    let mut left = n;
+    while 0 < left {
+        command::put32(s, at, number);
+        at += ROW;
+        left -= 1;
+    }
+}
+
+// ---- heads
+
+// A follower of this term, lost parts cleared.
+fn follow(h: Head, t: Term) -> Head
+    ensures { λ r. ⌜ r ≡ following h t ⌝ }
+{
+    let nobody = [false; 7];
+    let nothing = [Place::of(0); 7];
+    let mut next = h;
+    next.term = t;
+    next.gathered = Place::of(0);
+    next.role = FOLLOWER;
+    next.voters = nobody;
+    next.confirmed = nothing;
+    next
+}
+
+// A candidate of the next term, with itself as its voter.
+fn stand(h: Head, own: Hub) -> Head
+    requires { ⌜ (1 ≤ own .0) × (own .0 ≤ 7) × (h .term .0 < 4294967295) ⌝ }
+    ensures { λ r. ⌜ r ≡ standing h (own .0) ⌝ }
+{
+    let i = (own.number() - 1) as usize;
+    let mut itself = [false; 7];
+    itself[i] = true;
+    let mut next = follow(h, Term::of(h.term.number() + 1));
+    next.role = CANDIDATE;
+    next.voters = itself;
+    next
+}
+
+// A leader's log has one entry more; own confirmed length follows.
+fn grow(h: Head, own: Hub) -> Head
+    requires { ⌜ (1 ≤ own .0) × (own .0 ≤ 7) × (h .length .0 < 4294967295) ⌝ }
+    ensures { λ r. ⌜ r ≡ grown h (own .0) ⌝ }
+{
+    let n = h.length.number() + 1;
+    let i = (own.number() - 1) as usize;
+    let mut next = h;
+    next.length = Place::of(n);
+    next.confirmed[i] = Place::of(n);
+    next
+}
+
+// A leader whose log n gathered entries have joined: ballot = term, lost parts cleared, own confirmed length = length.
+fn lead(h: Head, own: Hub, n: u32) -> Head
+    requires { ⌜ (1 ≤ own .0) × (own .0 ≤ 7) × (h .length .0 + n ≤ 4294967295) ⌝ }
+    ensures { λ r. ⌜ r ≡ leading h (own .0) n ⌝ }
+{
+    let i = (own.number() - 1) as usize;
+    let long = Place::of(h.length.number() + n);
+    let t = h.term;
+    let mut next = follow(h, t);
+    next.ballot = t;
+    next.length = long;
+    next.role = LEADER;
+    next.confirmed[i] = long;
+    next
+}
+
+// A follower that took an append: ballot = term, with this chosen count and this length.
+fn take_head(h: Head, chosen: Place, n: Place) -> Head
+    ensures { λ r. ⌜ r ≡ taking h chosen n ⌝ }
+{
+    let t = h.term;
+    let mut next = h;
+    next.ballot = t;
+    next.chosen = chosen;
+    next.length = n;
+    next
+}
+
+// ---- the tests before every event
+
+// N is 3, 5 or 7, the own number in 1..N, the event one of the five.
+fn is_known(g: Group, event: u32) -> bool
+    ensures { λ r. ⌜ r ≡ isKnown (whoIn g) event ⌝ }
+{
+    let n = g.size;
+    let own = g.own.number();
+    let size = (n == 3) | ((n == 5) | (n == 7));
+    size & (((1 <= own) & (own <= n)) & ((1 <= event) & (event <= 5)))
+}
+
+// Whether the state that the event needs is legal: restart needs the kept parts alone.
+fn is_fit(g: Group, event: u32, state: &[u8]) -> bool
+    ensures { λ r. ⌜ r ≡ isFit (whoIn g) event (now (state .entry)) ⌝ }
+{
+    if event == RESTART {
+        return state::is_kept_legal(state);
+    }
+    state::is_legal(g.size, g.own.number(), state)
+}
+
+// The refusals before every event, in document 01's order: 1, 2, 3; 0 if there is none.
+fn refusal_before(g: Group, event: u32, state: &[u8], out: &[u8]) -> u32
+    ensures { λ r. ⌜ r ≡ gate (whoIn g) event (now (state .entry)) (now (out .entry)) ⌝ }
+{
+    if !is_known(g, event) {
+        return NOT_KNOWN;
+    }
+    if !is_fit(g, event, state) {
+        return BAD_STATE;
+    }
+    if out.len() < OUTPUT {
+        return SHORT_OUTPUT;
+    }
+    DONE
+}
+
+// ---- changes of the state that several events make
+
+// Clears the gathered rows behind the log.
+fn clear_gathered(h: Head, state: &mut [u8])
+    requires { ⌜ (h .length .0 + h .gathered .0 ≤ limit) × (length (now state) ≡ state-size) ⌝ }
+    ensures { λ _. ⌜ now (state .exit) ≡ sets (now (state .entry)) (head-size + h .length .0 * row-size) (replicate (h .gathered .0 * row-size) 0) ⌝ }
+{
+    let n = h.length.number();
+    clear(state, row_at(n), row_at(n + h.gathered.number()));
+}
+
+// Becomes a follower of its own term or of a higher one, lost parts cleared.
+fn raise_in(g: Group, h: Head, t: Term, state: &mut [u8])
+    requires { ⌜ Raises (whoIn g) h (t .0) (now state) ⌝ }
+    ensures { λ _. ⌜ now (state .exit) ≡ image (raised (stateIn (now (state .entry))) (t .0)) ⌝ }
+{
+    clear_gathered(h, state);
+    state::write_head(state, follow(h, t));
+}
+
+// ---- start
+
+// Follower or candidate: term +1; candidate; voters = itself; rest of the lost parts cleared.
+fn start_in(g: Group, h: Head, state: &mut [u8])
+    requires { ⌜ Starts (whoIn g) h (now state) ⌝ }
+    ensures { λ _. ⌜ now (state .exit) ≡ image (started (whoIn g) (stateIn (now (state .entry)))) ⌝ }
+{
+    clear_gathered(h, state);
+    state::write_head(state, stand(h, g.own));
+}
+
+// ---- restart
+
+// Lost parts cleared, follower: whatever stood in the lost parts.
+fn restart_in(state: &mut [u8])
+    requires { ⌜ isSome (readKept (now state)) ≡ true ⌝ }
+    ensures { λ _. ⌜ now (state .exit) ≡ image (restart (keptIn (now (state .entry))) .state) ⌝ }
+{
+    let h = state::read_head(state);
+    let end = state.len();
+    clear(state, row_at(h.length.number()), end);
+    state::write_head(state, follow(h, h.term));
+}
+
+// ---- propose
+
+// Adds a command with the present term behind a leader's log.
+fn add_entry(g: Group, h: Head, state: &mut [u8], command: &[u8])
+    requires { ⌜ Adds (whoIn g) h (now state) (now command) ⌝ }
+    ensures { λ _. ⌜ now (state .exit) ≡ image (propose (whoIn g) (stateIn (now (state .entry))) (readProposal (now (command .entry))) .state) ⌝ }
+{
+    put_row(
+        state,
+        row_at(h.length.number()),
+        h.term.number(),
+        words_at(command, 0),
+    );
+    state::write_head(state, grow(h, g.own));
+}
+
+// Propose (leader): the command is added with the present term; own confirmed length follows.
+fn propose_at(g: Group, state: &mut [u8], command: &[u8]) -> u32
+    requires { ⌜ Ready (whoIn g) (now state) ⌝ }
+    ensures { λ r. ⌜ Quiet (propose (whoIn g) (stateIn (now (state .entry))) (readProposal (now (command .entry)))) (now (state .entry)) r (now (state .exit)) ⌝ }
+{
+    let h = state::read_head(state);
+    if h.role != LEADER {
+        return WRONG_ROLE;
+    }
+    if !command::is_command(command) {
+        return BAD_COMMAND;
+    }
+    if state::limit_places() <= h.length.number() {
+        return LOG_FULL;
+    }
+    add_entry(g, h, state, command);
+    DONE
+}
+
+// ---- the largest place confirmed by a majority
+
+// A majority of the hubs 1..n has confirmed a length of p or more.
+fn is_confirmed(n: u32, confirmed: [Place; 7], p: Place) -> bool
+    requires { ⌜ n ≤ 7 ⌝ }
+    ensures { λ r. ⌜ r ≡ confirmedBy n (map (λ q. q .0) confirmed) (p .0) ⌝ }
+{
+    let mut found: u32 = 0;
+    let mut i: u32 = 0;
+    while i < n {
+        let at = i as usize;
+        if !confirmed[at].below(p) {
+            found += 1;
+        }
+        i += 1;
+    }
+    n / 2 + 1 <= found
+}
+
+// The largest place confirmed by a majority; 0 if there is none. It tries all places from the limit down.
+fn majority_place(n: u32, confirmed: [Place; 7]) -> Place
+    requires { ⌜ n ≤ 7 ⌝ }
+    ensures { λ r. ⌜ r ≡ place (majorityPlace n (map (λ q. q .0) confirmed)) ⌝ }
+{
+    let mut p = state::limit_places();
+    while 0 < p {
+        if is_confirmed(n, confirmed, Place::of(p)) {
+            return Place::of(p);
+        }
+        p -= 1;
+    }
+    Place::of(0)
+}
+
+fn greater(a: Place, b: Place) -> Place
+    ensures { λ r. ⌜ r ≡ place (max (a .0) (b .0)) ⌝ }
+{
+    if a.below(b) {
+        return b;
+    }
+    a
+}
+
+// ---- append-yes
+
+// A leader's head with the confirmed length of another hub; chosen = the greater of itself and the largest place confirmed by a majority.
+fn confirm(g: Group, h: Head, from: Hub, end: Place) -> Head
+    requires { ⌜ (1 ≤ from .0) × (from .0 ≤ 7) × (g .size ≤ 7) ⌝ }
+    ensures { λ r. ⌜ r ≡ confirming h (from .0) end (place (max (h .chosen .0) (majorityPlace (g .size) (map (λ q. q .0) (set (h .confirmed) (from .0 - 1) end))))) ⌝ }
+{
+    let i = (from.number() - 1) as usize;
+    let mut next = h;
+    next.confirmed[i] = end;
+    let confirmed = next.confirmed;
+    next.chosen = greater(h.chosen, majority_place(g.size, confirmed));
+    next
+}
+
+// Whether an end is greater than recorded for a hub.
+fn is_more(h: Head, from: Hub, end: Place) -> bool
+    requires { ⌜ (1 ≤ from .0) × (from .0 ≤ 7) ⌝ }
+    ensures { λ r. ⌜ r ≡ ltb (getD (h .confirmed) (from .0 - 1) (place 0) .0) (end .0) ⌝ }
+{
+    let i = (from.number() - 1) as usize;
+    let confirmed = h.confirmed;
+    confirmed[i].below(end)
+}
+
+// append-yes at a leader, with a greater end than recorded: recorded. Otherwise nothing.
+fn hear_end(g: Group, state: &mut [u8], from: Hub, end: Place) -> bool
+    requires { ⌜ HearsEnd (whoIn g) (now state) (from .0) (end .0) ⌝ }
+    ensures { λ r. ⌜ Ruled (heardEnd (whoIn g) (stateIn (now (state .entry))) (from .0) (end .0)) (now (state .entry)) r (now (state .exit)) ⌝ }
+{
+    let h = state::read_head(state);
+    if h.role != LEADER {
+        return false;
+    }
+    if !is_more(h, from, end) {
+        return false;
+    }
+    state::write_head(state, confirm(g, h, from, end));
+    true
+}
+
+// ---- append
+
+// The term of the entry at a place of the log, which is not 0.
+fn term_of(g: Group, h: Head, p: Place, state: &[u8]) -> Term
+    requires { ⌜ Tested (whoIn g) h (now state) × (1 ≤ p .0) × (p .0 ≤ h .length .0) ⌝ }
+    ensures { λ r. ⌜ r ≡ term (termAt (stateIn (now (state .entry)) .kept .log) (p .0)) ⌝ }
+{
+    Term::of(command::get32(state, row_at(p.number() - 1)))
+}
+
+// Prev is 0, or prev ≤ length and the entry there has term prevterm.
+fn is_following(g: Group, h: Head, prev: Place, prevterm: Term, state: &[u8]) -> bool
+    requires { ⌜ Tested (whoIn g) h (now state) ⌝ }
+    ensures { λ r. ⌜ r ≡ follows (stateIn (now (state .entry)) .kept) (prev .0) (prevterm .0) ⌝ }
+{
+    if prev.number() == 0 {
+        return true;
+    }
+    if h.length.below(prev) {
+        return false;
+    }
+    term_of(g, h, prev, state).equals(prevterm)
+}
+
+// Whether an append fits: it follows, and also ballot = term or prev+count ≥ length.
+fn is_fitting(g: Group, h: Head, prev: Place, prevterm: Term, end: Place, state: &[u8]) -> bool
+    requires { ⌜ Tested (whoIn g) h (now state) ⌝ }
+    ensures { λ r. ⌜ r ≡ fits (stateIn (now (state .entry)) .kept) (prev .0) (prevterm .0) (end .0) ⌝ }
+{
+    if !is_following(g, h, prev, prevterm, state) {
+        return false;
+    }
+    h.ballot.equals(h.term) | (h.length.number() <= end.number())
+}
+
+// ---- what a hub reports, and sizes
+
+// The command that a hub reports at a place: its 16 bytes at the start of `out`. A refusal (2: kept parts not legal; 3: too little room; 12: the place is not in
+// 1..chosen) leaves every byte.
+pub fn reported_at(state: &[u8], place: u32, out: &mut [u8]) -> u32
+    ensures { λ r. ⌜ Reports (reportOf (now (state .entry)) place (now (out .entry))) r (now (out .exit)) ⌝ }
+{
+    if !state::is_kept_legal(state) {
+        return BAD_STATE;
+    }
+    if out.len() < COMMAND {
+        return SHORT_OUTPUT;
+    }
+    if place == 0 {
+        return NOT_REPORTED;
+    }
+    let h = state::read_head(state);
+    if h.chosen.number() < place {
+        return NOT_REPORTED;
+    }
+    put_words(out, 0, words_at(state, row_at(place - 1) + 4));
+    DONE
+}
+
+// How many commands a hub reports, times 2^32; or 2 if the kept parts are not legal.
+pub fn chosen_places(state: &[u8]) -> u64
+    ensures { λ r. ⌜ r ≡ chosenOf (now (state .entry)) ⌝ }
+{
+    if !state::is_kept_legal(state) {
+        return BAD_STATE as u64;
+    }
+    let h = state::read_head(state);
+    (h.chosen.number() as u64) * 4_294_967_296
+}
+
+// The least bytes of an output.
+pub fn output_bytes() -> usize
+    ensures { λ r. ⌜ r ≡ text-room ⌝ }
+{
+    OUTPUT
+}
