@@ -97,6 +97,25 @@ uint32_t kritnamon_write_command(uint32_t motor, uint32_t kind, int32_t duration
  * Proved: kritnamon_read_message in crates/kritnamon. */
 uint64_t kritnamon_read_message(const uint8_t *text, size_t length, uint32_t *numbers, size_t count);
 
+/* ---- States: bytes that the caller keeps and lends. A fresh hub's are all zero. docs/LAYOUT.md says what they hold. */
+
+#define KRITNAMON_STATE_SIZE 5176u
+#define KRITNAMON_PLACES     256u
+
+/* The numbers above, as this library has them: a caller may compare. The last is the least size of an output for a message. */
+size_t kritnamon_state_size(void);
+uint32_t kritnamon_places(void);
+size_t kritnamon_output_size(void);
+
+/* How many commands the hub of this state reports: KRITNAMON_SECOND of what is returned, with KRITNAMON_DONE as KRITNAMON_OUTCOME; or
+ * KRITNAMON_BAD_STATE and 0. Only the parts of the state that are kept over a restart are looked at. Proved: kritnamon_chosen. */
+uint64_t kritnamon_chosen(const uint8_t *state, size_t length);
+
+/* Writes the 16 bytes of the command that the hub reports at a place, counted from 1, at the start of `out`; the bytes behind them stay.
+ * Returns KRITNAMON_BAD_STATE if the kept parts are not legal, then KRITNAMON_SHORT_OUTPUT if out_length is below 16, then
+ * KRITNAMON_BAD_SEND if the hub reports nothing at that place; each leaves all bytes. Else KRITNAMON_DONE. Proved: kritnamon_reported. */
+uint32_t kritnamon_reported(const uint8_t *state, size_t length, uint32_t place, uint8_t *out, size_t out_length);
+
 #ifdef __cplusplus
 }
 #endif

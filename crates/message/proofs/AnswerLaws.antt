@@ -196,6 +196,10 @@ module _ (s : List ℕ) (o : Option Said) (r : Read) (e : r ≡ readAs s o) wher
 pub part-same : (s r : RefT (List ℕ)) (a e b f : ℕ) → IsPart s a e r → (a ≡ b) × (e ≡ f) → IsPart s b f r
 part-same s r a e b f p (x, y) = subst (λ (k : ℕ). IsPart s b k r) y (subst (λ (k : ℕ). IsPart s k e r) x p)
 
+-- Of one text no two parts are both right: they are the same bytes at the same place.
+pub part-one : (s r q : RefT (List ℕ)) (a e : ℕ) → IsPart s a e r → IsPart s a e q → (r .now ≡ q .now) × (r .ptr .0 ≡ q .ptr .0) × (r .ptr .1 ≡ q .ptr .1)
+part-one s r q a e x y = (x .bytes ∙ sym (y .bytes), x .block ∙ sym (y .block), x .place ∙ sym (y .place))
+
 -- ---- the entries that follow
 
 -- The fields with another body.

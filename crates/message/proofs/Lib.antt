@@ -10,3 +10,4 @@ pub mod RangeLegal
 pub mod RangeLaws
 pub mod OpeningLaws
 pub mod AnswerLaws
+pub mod RowsLaws

@@ -45,10 +45,12 @@ module _ (s : List ℕ) (at : ℕ) (t : MessageType) (ns : List ℕ) (f : Field)
 -- ---- several: the one that is none, or all that are asked for
 
 module _ (s : List ℕ) (at : ℕ) (t : MessageType) (ns : List ℕ) (f1 : Field) (lo1 hi1 : ℕ) (l1 : lo1 ≡ range t f1 (ns) .lo) (h1 : hi1 ≡ range t f1 (ns) .hi) (r1 : Number) (found1 : FoundNumber s (lineIn (key f1) lo1 hi1 (drop at s)) r1) where
+  -- The first is none.
   pub lines-lost-1 : (fs : List Field) → r1 ≡ Bad → linesIn t (f1 ∷ fs) ns (drop at s) ≡ lost
   lines-lost-1 fs b = line-lost s at t (ns) f1 fs lo1 hi1 l1 h1 r1 found1 b
 
   module _ (x1 n1 : ℕ) (e1 : r1 ≡ Is x1 n1) where
+    -- There is one, and no more are asked for.
     pub lines-1 : Found s (linesIn t (f1 ∷ []) ns (drop at s)) (ns ++ (x1 ∷ [])) n1
     lines-1 = line-last s at t (ns) f1 lo1 hi1 l1 h1 r1 found1 x1 n1 e1
 
@@ -56,10 +58,12 @@ module _ (s : List ℕ) (at : ℕ) (t : MessageType) (ns : List ℕ) (f1 : Field
       to-2 : (fs : List Field) → linesIn t (f1 ∷ f2 ∷ fs) ns (drop at s) ≡ linesIn t (f2 ∷ fs) (ns ++ (x1 ∷ [])) (drop n1 s)
       to-2 fs = line-next s at t (ns) f1 (f2 ∷ fs) lo1 hi1 l1 h1 r1 found1 x1 n1 e1
 
+      -- The second is none.
       pub lines-lost-2 : (fs : List Field) → r2 ≡ Bad → linesIn t (f1 ∷ f2 ∷ fs) ns (drop at s) ≡ lost
       lines-lost-2 fs b = to-2 fs ∙ line-lost s n1 t (ns ++ (x1 ∷ [])) f2 fs lo2 hi2 l2 h2 r2 found2 b
 
       module _ (x2 n2 : ℕ) (e2 : r2 ≡ Is x2 n2) where
+        -- There are two, and no more are asked for.
         pub lines-2 : Found s (linesIn t (f1 ∷ f2 ∷ []) ns (drop at s)) ((ns ++ (x1 ∷ [])) ++ (x2 ∷ [])) n2
         lines-2 = rw (to-2 []) (line-last s n1 t (ns ++ (x1 ∷ [])) f2 lo2 hi2 l2 h2 r2 found2 x2 n2 e2)
 
@@ -67,10 +71,12 @@ module _ (s : List ℕ) (at : ℕ) (t : MessageType) (ns : List ℕ) (f1 : Field
           to-3 : (fs : List Field) → linesIn t (f1 ∷ f2 ∷ f3 ∷ fs) ns (drop at s) ≡ linesIn t (f3 ∷ fs) ((ns ++ (x1 ∷ [])) ++ (x2 ∷ [])) (drop n2 s)
           to-3 fs = to-2 (f3 ∷ fs) ∙ line-next s n1 t (ns ++ (x1 ∷ [])) f2 (f3 ∷ fs) lo2 hi2 l2 h2 r2 found2 x2 n2 e2
 
+          -- The third is none.
           pub lines-lost-3 : (fs : List Field) → r3 ≡ Bad → linesIn t (f1 ∷ f2 ∷ f3 ∷ fs) ns (drop at s) ≡ lost
           lines-lost-3 fs b = to-3 fs ∙ line-lost s n2 t ((ns ++ (x1 ∷ [])) ++ (x2 ∷ [])) f3 fs lo3 hi3 l3 h3 r3 found3 b
 
           module _ (x3 n3 : ℕ) (e3 : r3 ≡ Is x3 n3) where
+            -- There are three, and no more are asked for.
             pub lines-3 : Found s (linesIn t (f1 ∷ f2 ∷ f3 ∷ []) ns (drop at s)) (((ns ++ (x1 ∷ [])) ++ (x2 ∷ [])) ++ (x3 ∷ [])) n3
             lines-3 = rw (to-3 []) (line-last s n2 t ((ns ++ (x1 ∷ [])) ++ (x2 ∷ [])) f3 lo3 hi3 l3 h3 r3 found3 x3 n3 e3)
 
@@ -78,10 +84,12 @@ module _ (s : List ℕ) (at : ℕ) (t : MessageType) (ns : List ℕ) (f1 : Field
               to-4 : (fs : List Field) → linesIn t (f1 ∷ f2 ∷ f3 ∷ f4 ∷ fs) ns (drop at s) ≡ linesIn t (f4 ∷ fs) (((ns ++ (x1 ∷ [])) ++ (x2 ∷ [])) ++ (x3 ∷ [])) (drop n3 s)
               to-4 fs = to-3 (f4 ∷ fs) ∙ line-next s n2 t ((ns ++ (x1 ∷ [])) ++ (x2 ∷ [])) f3 (f4 ∷ fs) lo3 hi3 l3 h3 r3 found3 x3 n3 e3
 
+              -- The fourth is none.
               pub lines-lost-4 : (fs : List Field) → r4 ≡ Bad → linesIn t (f1 ∷ f2 ∷ f3 ∷ f4 ∷ fs) ns (drop at s) ≡ lost
               lines-lost-4 fs b = to-4 fs ∙ line-lost s n3 t (((ns ++ (x1 ∷ [])) ++ (x2 ∷ [])) ++ (x3 ∷ [])) f4 fs lo4 hi4 l4 h4 r4 found4 b
 
               module _ (x4 n4 : ℕ) (e4 : r4 ≡ Is x4 n4) where
+                -- There are four, and no more are asked for.
                 pub lines-4 : Found s (linesIn t (f1 ∷ f2 ∷ f3 ∷ f4 ∷ []) ns (drop at s)) ((((ns ++ (x1 ∷ [])) ++ (x2 ∷ [])) ++ (x3 ∷ [])) ++ (x4 ∷ [])) n4
                 lines-4 = rw (to-4 []) (line-last s n3 t (((ns ++ (x1 ∷ [])) ++ (x2 ∷ [])) ++ (x3 ∷ [])) f4 lo4 hi4 l4 h4 r4 found4 x4 n4 e4)
 
@@ -100,9 +108,11 @@ to-range AppendNo = refl
 -- ---- the line `prevterm`
 
 module _ (b : Bool) (term : ℕ) where
+  -- Its least number, as the code picks it.
   pub prevterm-low : cond b 0 1 ≡ cond b (upTo 0) (from-to 1 term) .lo
   prevterm-low = elim b [ true ↦ refl | false ↦ refl ]
 
+  -- And its greatest.
   pub prevterm-high : cond b 0 term ≡ cond b (upTo 0) (from-to 1 term) .hi
   prevterm-high = elim b [ true ↦ refl | false ↦ refl ]
 

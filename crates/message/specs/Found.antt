@@ -2,7 +2,7 @@
 use Prim.Native.Nat.{ℕ}
 use mathlib.Core.List.{List, [], _∷_}
 use mathlib.Core.Path.{_≡_}
-use Rattle.text.specs.Reader.{Got, got, lost}
+use Rattle.text.specs.Reader.{Got, lost}
 use Rattle.text.specs.Found.{Found}
 use Rattle.message.specs.Fields.{MessageType}
 use Rattle.message.specs.Opening.{Opening}

@@ -8,3 +8,4 @@ pub mod Walk
 pub mod Answer
 pub mod Found
 pub mod Part
+pub mod Rows

@@ -1,7 +1,7 @@
 -- A message up to its entries, read by ranges: its type and its numbers. Assumes nothing.
 use Prim.Native.Nat.{ℕ}
 use mathlib.Core.List.{List, [], _∷_}
-use Rattle.text.specs.Reader.{Got, got, lost, Reader, onward, _>>=_, _>>_, pure, literal}
+use Rattle.text.specs.Reader.{Reader, _>>=_, _>>_, pure, literal}
 use Rattle.message.specs.Fields.{
   MessageType,
   type=vote-request,

@@ -1,8 +1,6 @@
 -- A walk over entry lines: one at a time, and past all of them. Assumes nothing.
 use Prim.Native.Nat.{ℕ}
-use mathlib.Core.List.{List, []}
-use Rattle.text.specs.Ascii.{ascii}
-use Rattle.text.specs.Reader.{Got, got, lost, Reader, onward, _>>=_, _>>_, pure, literal}
+use Rattle.text.specs.Reader.{Got, Reader, onward, _>>=_, _>>_, pure, literal}
 use Rattle.text.specs.Hex.{hexBytes}
 use Rattle.text.specs.Line.{LF}
 use Rattle.text.specs.Range.{numberIn}

@@ -1,18 +1,24 @@
-// Messages between hubs, as document 01 writes them, read from a lent text, where their entries stay.
+// Messages between hubs, as document 01 writes them: read from a lent text, where their entries stay; and entry lines written into a
+// lent buffer from rows of 20 bytes, as a state's table has them.
 ghost use mathlib.Core.Path.{_≡_};
 ghost use mathlib.Core.Bool.{cond};
-ghost use mathlib.Core.List.{[], _∷_};
-ghost use Prim.Native.Nat.{_-_, _≤_, max};
+ghost use mathlib.Core.List.{[], _∷_, _++_};
+ghost use Prim.Native.Nat.{_+_, _-_, _*_, _≤_, max};
 ghost use lib.ListN.{length, drop};
-ghost use Rattle.message.specs.Fields.{type=vote-request, type=vote-yes, type=vote-no, type=append, type=append-yes, type=append-no};
-ghost use Rattle.message.specs.Text.{typeAmong, read, partFrom, partTo};
+ghost use Rattle.message.specs.Fields.{type=vote-request, type=vote-yes, type=append, type=append-yes, type=append-no};
+ghost use Rattle.message.specs.Text.{entry=, entryText, entriesText, typeAmong, read, partFrom, partTo};
 ghost use Rattle.message.specs.Opening.{votes, appends, typeLine, headLines, ownLines, opening};
 ghost use Rattle.message.specs.Answer.{fieldsAt, typeIs, unlessRequest, openingOf, spanOf, readAs};
 ghost use Rattle.message.specs.Found.{FoundKind, FoundHead, FoundFields, FoundEntry};
 ghost use Rattle.message.specs.Range.{entryIn, entriesIn};
 ghost use Rattle.message.specs.Part.{IsPart};
 ghost use Rattle.message.specs.Walk.{entryLine, past};
+ghost use Rattle.text.specs.Decimal.{decimal};
 ghost use Rattle.text.specs.Found.{FoundNext};
+ghost use Rattle.text.specs.Hex.{hex};
+ghost use Rattle.text.specs.Line.{LF};
+ghost use Rattle.text.specs.Wrote.{Wrote};
+ghost use Rattle.message.specs.Rows.{rowEntry, rowEntries};
 ghost use Rattle.text.specs.HexWords.{IsTable};
 use kinds::Hub;
 use kinds::Place;
@@ -628,4 +634,53 @@ pub fn entry_lines<'a>(s: &'a [u8]) -> &'a [u8]
         return part(s, 0, 0);
     };
     part(s, entries, s.len())
+}
+
+// ---- writing
+
+// An entry line up to its command.
+fn write_term(out: &mut [u8], at: usize, term: u32) -> usize
+    requires { ⌜ at + length (entry= ++ (decimal term ++ (58 ∷ []))) ≤ length (now out) ⌝ }
+    ensures { λ r. ⌜ Wrote (now (out .entry)) at (entry= ++ (decimal term ++ (58 ∷ []))) r (now (out .exit)) ⌝ }
+{
+    let p = text::put(out, at, b"entry=");
+    let q = text::write_number(out, p, term);
+    text::put(out, q, b":")
+}
+
+// The digits of a command, and the line's end.
+fn write_digits(out: &mut [u8], at: usize, bytes: &[u8]) -> usize
+    requires { ⌜ at + length (hex (now bytes) ++ LF) ≤ length (now out) ⌝ }
+    ensures { λ r. ⌜ Wrote (now (out .entry)) at (hex (now (bytes .entry)) ++ LF) r (now (out .exit)) ⌝ }
+{
+    let p = text::write_hex(out, at, bytes);
+    text::put(out, p, b"\n")
+}
+
+// The entry line of the row from a place on.
+fn write_row(out: &mut [u8], at: usize, rows: &[u8], from: usize) -> usize
+    requires { ⌜ (from + 20 ≤ length (now rows)) × (at + length (entryText (rowEntry (drop from (now rows)))) ≤ length (now out)) ⌝ }
+    ensures { λ r. ⌜ Wrote (now (out .entry)) at (entryText (rowEntry (drop from (now (rows .entry))))) r (now (out .exit)) ⌝ }
+{
+    let term = command::get32(rows, from);
+    let p = write_term(out, at, term);
+    let a = from + 4;
+    let e = from + 20;
+    write_digits(out, p, &rows[a..e])
+}
+
+// The entry lines of the first rows. The hub's step lends its own table.
+pub fn write_rows(out: &mut [u8], at: usize, rows: &[u8], count: u32) -> usize
+    requires { ⌜ (20 * count ≤ length (now rows)) × (at + length (entriesText (rowEntries count (now rows))) ≤ length (now out)) ⌝ }
+    ensures { λ r. ⌜ Wrote (now (out .entry)) at (entriesText (rowEntries count (now (rows .entry)))) r (now (out .exit)) ⌝ }
+{
+    let mut i = at;
+    let mut from: usize = 0;
+    let mut left = count;
+    while 0 < left {
+        i = write_row(out, i, rows, from);
+        from += 20;
+        left -= 1;
+    }
+    i
 }

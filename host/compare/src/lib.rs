@@ -23,6 +23,17 @@ mod library {
             out: *mut u8,
             length: usize,
         ) -> u32;
+        pub fn kritnamon_state_size() -> usize;
+        pub fn kritnamon_places() -> u32;
+        pub fn kritnamon_output_size() -> usize;
+        pub fn kritnamon_chosen(state: *const u8, length: usize) -> u64;
+        pub fn kritnamon_reported(
+            state: *const u8,
+            length: usize,
+            place: u32,
+            out: *mut u8,
+            out_length: usize,
+        ) -> u32;
         pub fn kritnamon_read_message(text: *const u8, length: usize, fields: *mut u32, count: usize) -> u64;
     }
 }
@@ -52,4 +63,24 @@ pub fn read_message(text: &[u8], fields: &mut [u32]) -> (u32, u32) {
     halves(unsafe {
         library::kritnamon_read_message(text.as_ptr(), text.len(), fields.as_mut_ptr(), fields.len())
     })
+}
+
+/// The size of a state, the places of a log, and the least size of an output.
+pub fn sizes() -> (usize, u32, usize) {
+    // SAFETY: the functions take nothing.
+    unsafe {
+        (library::kritnamon_state_size(), library::kritnamon_places(), library::kritnamon_output_size())
+    }
+}
+
+/// The outcome, and how many commands a hub reports.
+pub fn chosen(state: &[u8]) -> (u32, u32) {
+    // SAFETY: pointer and length are those of one slice.
+    halves(unsafe { library::kritnamon_chosen(state.as_ptr(), state.len()) })
+}
+
+/// The command that a hub reports at a place.
+pub fn reported(state: &[u8], place: u32, out: &mut [u8]) -> u32 {
+    // SAFETY: each pointer and length are those of one slice, the second lent to this call alone.
+    unsafe { library::kritnamon_reported(state.as_ptr(), state.len(), place, out.as_mut_ptr(), out.len()) }
 }
