@@ -63,6 +63,10 @@ leads = leading (kept 5 5 0 (entry 1 ∷ entry 5 ∷ [])) (confirmed 2 1)
 abbrev pub five : State
 five = standing (kept 5 3 0 []) (true ∷ true ∷ replicate 5 false) (record { ballot = 2; command = buzz } ∷ [])
 
+-- Hub 2 follows the leader of term 5 and has two of its entries.
+abbrev pub keepsUp : State
+keepsUp = following (kept 5 5 0 (entry 1 ∷ entry 5 ∷ []))
+
 -- The home of the first shortcut: entry terms 1 and 2 at ballot 4.
 abbrev pub chosenTwo : State
 chosenTwo = following (kept 4 4 2 (entry 1 ∷ entry 2 ∷ []))
@@ -87,6 +91,21 @@ examples =
     ∷ at 0 1 7 5 0 0 (image five)
     (ascii "type=vote-yes\nterm=5\nfrom=3\nto=1\nlast=0\nballot=2\ncount=1\nentry=2:00030001000000010000000000000000\n") 0
     (image (standing (kept 5 3 0 []) (true ∷ true ∷ true ∷ replicate 4 false) (record { ballot = 2; command = buzz } ∷ []))) []
+    -- 0: at its own ballot a log that goes beyond an append stays, and chosen follows
+    ∷ does 0 2 5 keepsUp
+    (ascii "type=append\nterm=5\nfrom=1\nto=2\nprev=0\nprevterm=0\nchosen=1\ncount=1\nentry=1:00030001000000fa3f00000000000000\n")
+    (following (kept 5 5 1 (entry 1 ∷ entry 5 ∷ [])))
+    (ascii "type=append-yes\nterm=5\nfrom=2\nto=1\nend=1\n")
+    -- 0: entries after prev join it
+    ∷ does 0 2 5 keepsUp
+    (ascii "type=append\nterm=5\nfrom=1\nto=2\nprev=2\nprevterm=5\nchosen=3\ncount=1\nentry=5:00030001000000fa3f00000000000000\n")
+    (following (kept 5 5 3 (entry 1 ∷ entry 5 ∷ entry 5 ∷ [])))
+    (ascii "type=append-yes\nterm=5\nfrom=2\nto=1\nend=3\n")
+    -- 0: a prev beyond the log, and one of another term, do not fit
+    ∷ does 0 2 5 keepsUp (ascii "type=append\nterm=5\nfrom=1\nto=2\nprev=3\nprevterm=5\nchosen=0\ncount=0\n") keepsUp
+    (ascii "type=append-no\nterm=5\nfrom=2\nto=1\nlength=2\n")
+    ∷ does 0 2 5 keepsUp (ascii "type=append\nterm=5\nfrom=1\nto=2\nprev=2\nprevterm=4\nchosen=0\ncount=0\n") keepsUp
+    (ascii "type=append-no\nterm=5\nfrom=2\nto=1\nlength=2\n")
     -- 1
     ∷ at 1 1 4 1 0 0 (image fresh) [] 1 (image fresh) []
     ∷ at 1 4 3 1 0 0 (image fresh) [] 1 (image fresh) []
