@@ -3,3 +3,4 @@ pub mod WordsLaws
 pub mod CommandLaws
 pub mod CaseLaws
 pub mod AnswersLaws
+pub mod EntryLaws

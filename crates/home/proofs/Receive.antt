@@ -34,7 +34,7 @@ use Rattle.rules.specs.Receive.{
   receive,
 }
 use Rattle.rules.proofs.BoolLaws.{or-first, or-second, or-either, cond-either}
-use Rattle.rules.proofs.EntryLaws.{between-is}
+use Rattle.kinds.proofs.BetweenLaws.{between-true}
 use Rattle.rules.proofs.LegalLaws.{IsWho, legalMessage-is, legalCandidate-is, legalLeader-is}
 use Rattle.rules.proofs.MessageLaws.{append-is}
 use Rattle.paxos.proofs.Member.{clash}
@@ -55,7 +55,7 @@ use Rattle.home.proofs.Yes.{yes-goes}
 addressed : (own to : ℕ) → between 1 hubs-most to ≡ true → (eqb to own || eqb to 0) ≡ true → to ≡ own
 addressed own to legal t =
     or-either (eqb to own) (eqb to 0) t (λ z. eqb-true to own z)
-    (λ z. absurd (omega (arith, eqb-true to 0 z, between-is 1 hubs-most to legal .0)))
+    (λ z. absurd (omega (arith, eqb-true to 0 z, between-true 1 hubs-most to legal .0)))
 
 -- No message contradicts a follower.
 follower-agrees : (k : Kept) (b : Body) → contradicts (record { kept = k; lost = follower }) b ≡ false

@@ -14,7 +14,7 @@ use Rattle.command.specs.Command.{Command}
 use Rattle.command.specs.Entry.{Entry}
 use Rattle.state.specs.State.{fresh}
 use Rattle.rules.specs.Events.{forHub, setHub}
-use Rattle.rules.proofs.EntryLaws.{between-is, is-between}
+use Rattle.kinds.proofs.BetweenLaws.{between-in, between-true}
 use Rattle.paxos.specs.Put.{put}
 use Rattle.paxos.specs.Paxos.{never, at}
 use Rattle.paxos.proofs.PutLaws.{put-same, put-other}
@@ -60,12 +60,12 @@ holds-none b log (suc i) lt = ap (tells b) (at-out log i (omega arith))
 
 -- A place that is reported is i + 1 with i below the count of chosen places.
 pub said-lt : (n p : ℕ) → between 1 n p ≡ true → (i : ℕ) × (p ≡ suc i) × (i < n)
-said-lt n zero h = absurd (omega (arith, between-is 1 n 0 h .0))
-said-lt n (suc i) h = (i, refl, omega (arith, between-is 1 n (suc i) h .1))
+said-lt n zero h = absurd (omega (arith, between-true 1 n 0 h .0))
+said-lt n (suc i) h = (i, refl, omega (arith, between-true 1 n (suc i) h .1))
 
 -- And the other way round.
 pub lt-said : (n i : ℕ) → i < n → between 1 n (suc i) ≡ true
-lt-said n i lt = is-between 1 n (suc i) (omega arith) (omega arith)
+lt-said n i lt = between-in 1 n (suc i) (omega arith) (omega arith)
 
 -- A fresh hub's view is blank.
 pub fresh-view : blank ≡ viewOf (fresh .kept)

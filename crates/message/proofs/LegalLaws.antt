@@ -9,7 +9,7 @@ use mathlib.Core.List.{List, [], _∷_}
 use borrow.Author.Tests.{leb-true, ltb-true, eqb-true, eqb-false, le-leb, lt-ltb, eq-eqb, ne-eqb}
 use lib.ListN.{length}
 use Rattle.kinds.specs.Sizes.{between, hubs-most, term-most, limit, text-room}
-use Rattle.text.proofs.BetweenLaws.{between-true}
+use Rattle.kinds.proofs.BetweenLaws.{between-true}
 use Rattle.command.specs.Entry.{Entry, legalEntries}
 use Rattle.command.proofs.Tests.{by-test, both}
 use Rattle.message.specs.Message.{Message, Body, vote-request, vote-yes, vote-no, append, append-yes, append-no, entriesOf}
@@ -150,12 +150,13 @@ abbrev pub Most : List ℕ → Type 0
 Most [] = Unit
 Most (n ∷ ns) = (n ≤ term-most) × Most ns
 
--- What a legal body has. Its entries' terms lie in some range of 32 bits.
+-- What a legal body has. Its entries' terms lie in some range of 32 bits that does not hold 0.
 pub record OwnHeld (b : Body) : Type 0 where
   pub own-most : Most (ownNumbers b)
   pub count-most : length (entriesOf b) ≤ limit
   pub low : ℕ
   pub high : ℕ
+  pub low-first : 1 ≤ low
   pub high-most : high ≤ term-most
   pub entries-legal : legalEntries low high (entriesOf b) ≡ true
 
@@ -164,7 +165,7 @@ unfolding legalBody ownNumbers entriesOf legalEntries
 own-held term (vote-request last ballot) most h =
     let r = request-has term last ballot h in
     let s = sizes in
-    record { own-most = (omega arith, (omega arith, tt)); count-most = omega arith; low = 1; high = 0; high-most = omega arith; entries-legal = refl }
+    record { own-most = (omega arith, (omega arith, tt)); count-most = omega arith; low = 1; high = 0; low-first = omega arith; high-most = omega arith; entries-legal = refl }
 own-held term (vote-yes last ballot es) most h =
     let r = yes-has term last ballot es h in
     let s = sizes in
@@ -173,11 +174,12 @@ own-held term (vote-yes last ballot es) most h =
       count-most = omega arith;
       low = 1;
       high = ballot;
+      low-first = omega arith;
       high-most = omega arith;
       entries-legal = r .entries-legal;
     }
 own-held term vote-no most h =
-    record { own-most = tt; count-most = omega arith; low = 1; high = 0; high-most = omega arith; entries-legal = refl }
+    record { own-most = tt; count-most = omega arith; low = 1; high = 0; low-first = omega arith; high-most = omega arith; entries-legal = refl }
 own-held term (append prev prevterm chosen es) most h =
     let r = append-has term prev prevterm chosen es h in
     let s = sizes in
@@ -186,17 +188,18 @@ own-held term (append prev prevterm chosen es) most h =
       count-most = omega arith;
       low = max 1 prevterm;
       high = term;
+      low-first = omega arith;
       high-most = most;
       entries-legal = r .entries-legal;
     }
 own-held term (append-yes end) most h =
     let p : end ≤ limit = leb-true end limit h in
     let s = sizes in
-    record { own-most = (omega arith, tt); count-most = omega arith; low = 1; high = 0; high-most = omega arith; entries-legal = refl }
+    record { own-most = (omega arith, tt); count-most = omega arith; low = 1; high = 0; low-first = omega arith; high-most = omega arith; entries-legal = refl }
 own-held term (append-no n) most h =
     let p : n ≤ limit = leb-true n limit h in
     let s = sizes in
-    record { own-most = (omega arith, tt); count-most = omega arith; low = 1; high = 0; high-most = omega arith; entries-legal = refl }
+    record { own-most = (omega arith, tt); count-most = omega arith; low = 1; high = 0; low-first = omega arith; high-most = omega arith; entries-legal = refl }
 
 to-most : (to : ℕ) (b : Body) → legalTo to b ≡ true → to ≤ hubs-most
 unfolding legalTo

@@ -9,7 +9,7 @@ use borrow.Author.Tests.{eq-eqb, eqb-true, eqb-false}
 use lib.Dec.{leb, eqb, leb·zero}
 use lib.ListN.{length, getD}
 use Rattle.kinds.specs.Sizes.{between, hubs-most, term-most, limit}
-use Rattle.text.proofs.BetweenLaws.{between-in, between-true}
+use Rattle.kinds.proofs.BetweenLaws.{between-in, between-true}
 use Rattle.command.specs.Entry.{Entry, legalEntries}
 use Rattle.command.proofs.Tests.{by-test, both}
 use Rattle.message.specs.Message.{vote-request, vote-yes, vote-no, append}

@@ -15,7 +15,7 @@ use Rattle.text.specs.Decimal.{decimal}
 use Rattle.text.specs.Hex.{hex}
 use Rattle.text.specs.Line.{LF, lineText}
 use Rattle.text.specs.Reader.{got, whole}
-use Rattle.text.proofs.BetweenLaws.{between-true}
+use Rattle.kinds.proofs.BetweenLaws.{between-true}
 use Rattle.text.proofs.ReaderLaws.{whole-sound, whole-got}
 use Rattle.text.proofs.DecimalLaws.{decimal-ten}
 use Rattle.text.proofs.HexLaws.{hex-length}

@@ -9,7 +9,7 @@ use Rattle.text.specs.Reader.{Got, got, lost, Reader, pure, literal, _>>=_, _>>
 use Rattle.text.specs.Decimal.{decimal, number}
 use Rattle.text.specs.Hex.{hex, hexBytes}
 use Rattle.text.specs.Line.{LF, lineText, line}
-use Rattle.text.proofs.BetweenLaws.{between-above}
+use Rattle.kinds.proofs.BetweenLaws.{between-above}
 use Rattle.text.proofs.ReaderLaws.{got-same, lost-never, onward-got, onward-sound, Reads, reads-then, behind, literal-written, literal-sound}
 use Rattle.text.proofs.LineLaws.{ended-written, ended-sound, line-written, line-sound}
 use Rattle.text.proofs.HexLaws.{hex-written, hex-sound}

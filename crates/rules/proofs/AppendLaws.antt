@@ -17,7 +17,9 @@ use Rattle.rules.specs.Events.{termAt}
 use Rattle.rules.specs.Receive.{fits, replaced, taken, heardAppend}
 use Rattle.rules.specs.Theorems.{Grows}
 use Rattle.rules.proofs.BoolLaws.{and-first, and-second, and-either, or-either, not-both, cond-either}
-use Rattle.rules.proofs.EntryLaws.{is-between, legalEntries-wider, legalEntries-take, legalEntries-append, lastTerm, termAt-is}
+use Rattle.kinds.proofs.BetweenLaws.{between-in}
+use Rattle.command.proofs.EntryLaws.{legalEntries-wider}
+use Rattle.rules.proofs.EntryLaws.{legalEntries-take, legalEntries-append, lastTerm, termAt-is}
 use Rattle.rules.proofs.LegalLaws.{IsWho, IsKept, legalState-kept, follower-legal}
 use Rattle.rules.proofs.MessageLaws.{IsAppend}
 use Rattle.rules.proofs.Fair.{Fine, does, IsPeer, grows-same, writes-one, says-legal, some-not-none}
@@ -114,7 +116,7 @@ heardAppend-fine w i s from prev prevterm chosen entries p h first m =
     let k = s .kept in
     let kept = legalState-kept w s h in
     let end = prev + length entries in
-    let peer = is-between 1 hubs-most from (p .first) (omega (arith, p .last, i .most)) in
+    let peer = between-in 1 hubs-most from (p .first) (omega (arith, p .last, i .most)) in
     cond-either (Fine w s) (fits k prev prevterm end)
     (λ t.
     does

@@ -9,65 +9,13 @@ use borrow.Author.Tests.{leb-true, le-leb}
 use lib.Dec.{leb}
 use lib.ListN.{length, take, drop}
 use Rattle.kinds.specs.Sizes.{between}
+use Rattle.kinds.proofs.BetweenLaws.{between-in}
 use Rattle.command.specs.Command.{Command, legalCommand}
 use Rattle.command.specs.Entry.{Entry, legalEntries}
 use Rattle.state.specs.Legal.{all}
+use Rattle.command.proofs.EntryLaws.{First, legalEntries-first, first-legalEntries, legalEntries-wider}
 use Rattle.rules.specs.Events.{termAt}
 use Rattle.rules.proofs.BoolLaws.{and-first, and-second, and-both}
-
--- ---- a number in a range
-
--- What a range says.
-pub between-is : (lo hi x : ℕ) → between lo hi x ≡ true → (lo ≤ x) × (x ≤ hi)
-unfolding between
-between-is lo hi x h = (leb-true lo x (and-first (leb lo x) (leb x hi) h), leb-true x hi (and-second (leb lo x) (leb x hi) h))
-
--- A number in a range.
-pub is-between : (lo hi x : ℕ) → lo ≤ x → x ≤ hi → between lo hi x ≡ true
-unfolding between
-is-between lo hi x p q = and-both (le-leb lo x p) (le-leb x hi q)
-
--- ---- one entry after another
-
--- What legal entries say of the first.
-record First (low high : ℕ) (e : Entry) (es : List Entry) : Type 0 where
-  from : low ≤ e .term
-  to : e .term ≤ high
-  command : legalCommand (e .command) ≡ true
-  rest : legalEntries (e .term) high es ≡ true
-
-legalEntries-first : (low high : ℕ) (e : Entry) (es : List Entry) → legalEntries low high (e ∷ es) ≡ true → First low high e es
-unfolding legalEntries
-legalEntries-first low high e es h =
-    let here = between low high (e .term) in
-    let legal = legalCommand (e .command) in
-    let rest = legalEntries (e .term) high es in
-    let range = between-is low high (e .term) (and-first here (legal && rest) h) in
-    let more = and-second here (legal && rest) h in
-    record { from = range .0; to = range .1; command = and-first legal rest more; rest = and-second legal rest more }
-
-first-legalEntries : (low high : ℕ) (e : Entry) (es : List Entry) → First low high e es → legalEntries low high (e ∷ es) ≡ true
-unfolding legalEntries
-first-legalEntries low high e es f =
-    and-both (is-between low high (e .term) (f .from) (f .to)) (and-both (f .command) (f .rest))
-
--- ---- other bounds
-
--- Legal within bounds, legal within wider ones.
-pub legalEntries-wider :
-    (low low′ high high′ : ℕ) (es : List Entry) → low′ ≤ low → high ≤ high′
-    → legalEntries low high es ≡ true → legalEntries low′ high′ es ≡ true
-unfolding legalEntries
-legalEntries-wider low low′ high high′ [] p q h = refl
-legalEntries-wider low low′ high high′ (e ∷ es) p q h =
-    let f = legalEntries-first low high e es h in
-    first-legalEntries low′ high′ e es
-    (record {
-      from = omega (arith, f .from);
-      to = omega (arith, f .to);
-      command = f .command;
-      rest = legalEntries-wider (e .term) (e .term) high high′ es (omega arith) q (f .rest);
-    })
 
 -- ---- the last term
 
@@ -165,7 +113,7 @@ legalEntries-same f low t [] p h = refl
 legalEntries-same f low t (x ∷ l) p h =
     let first = legalCommand (f x) in
     let rest = all (λ y. legalCommand (f y)) l in
-    and-both (is-between low t t p (omega arith))
+    and-both (between-in low t t p (omega arith))
     (and-both (and-first first rest h) (legalEntries-same f t t l (omega arith) (and-second first rest h)))
 
 -- Legal commands join a legal log with a term that is no lower.

@@ -20,7 +20,9 @@ use Rattle.rules.specs.Events.{isLeader, len, withTerm, leads, started, 
 use Rattle.rules.specs.Theorems.{Grows, Says}
 use Rattle.rules.proofs.BoolLaws.{and-second, and-both, or-first, or-second, cond-either, cond-some}
 use Rattle.rules.proofs.CountLaws.{all-weaker, all-set, all-drop, all-replicate, count-set, count-none}
-use Rattle.rules.proofs.EntryLaws.{is-between, legalEntries-wider, legalEntries-drop, legalEntries-joined, termAt-is}
+use Rattle.kinds.proofs.BetweenLaws.{between-in}
+use Rattle.command.proofs.EntryLaws.{legalEntries-wider}
+use Rattle.rules.proofs.EntryLaws.{legalEntries-drop, legalEntries-joined, termAt-is}
 use Rattle.rules.proofs.LegalLaws.{IsWho, isHub-is, IsKept, legalKept-is, IsLeader, legalLeader-is, legalState-kept, legalState-lost, follower-legal, candidate-legal, leader-legal}
 use Rattle.rules.proofs.MessageLaws.{is-request, is-append}
 use Rattle.rules.proofs.Fair.{Sound, Fair, grows-same, writes-none, writes-one, says-legal, refuses-fair, goes-fair}
@@ -174,7 +176,7 @@ module _ (w : Who) (i : IsWho w) where
       let held = legalEntries-wider 1 1 (k .ballot) (k .term) (k .log) (omega arith) (kept .ballot) (kept .entries) in
       let at = termAt-is (k .term) (k .log) prev held (l .term) in-log in
       says-legal w i s s peer _ refl (l .term) (kept .term)
-      (is-between 1 hubs-most peer (peers .0) (omega (arith, peers .1, i .most)))
+      (between-in 1 hubs-most peer (peers .0) (omega (arith, peers .1, i .most)))
       (is-append (k .term) prev _ _ _
       (record {
         within = omega (arith, kept .within);

@@ -14,7 +14,7 @@ use Rattle.message.specs.Legal.{legalTo, legalBody, legalMessage}
 use Rattle.state.specs.State.{Kept, Pair, follower, candidate, leader, State}
 use Rattle.state.specs.Legal.{all, count, legalKept, legalPair, legalCandidate, legalLeader, legalLost, legalState}
 use Rattle.rules.proofs.BoolLaws.{and-first, and-second, and-both, each-holds, or-either, or-one}
-use Rattle.rules.proofs.EntryLaws.{between-is, is-between}
+use Rattle.kinds.proofs.BetweenLaws.{between-in, between-true}
 
 -- ---- sizes
 
@@ -34,7 +34,7 @@ isSize-is n h =
 -- A hub of the group.
 pub isHub-is : (n h : ℕ) → isHub n h ≡ true → (1 ≤ h) × (h ≤ n)
 unfolding isHub
-isHub-is n h e = between-is 1 n h e
+isHub-is n h e = between-true 1 n h e
 
 -- The step's first tests say so.
 pub isWho : (w : Who) → isSize (w .size) ≡ true → isHub (w .size) (w .own) ≡ true → IsWho w
@@ -220,13 +220,13 @@ legalMessage-is m h =
     let term = between 1 term-most (m .term) in
     let from = between 1 hubs-most (m .from) in
     let t = each-holds (term ∷ from ∷ legalTo (m .to) (m .body) ∷ legalBody (m .term) (m .body) ∷ []) h in
-    let terms = between-is 1 term-most (m .term) (t 0) in
-    let hubs = between-is 1 hubs-most (m .from) (t 1) in
+    let terms = between-true 1 term-most (m .term) (t 0) in
+    let hubs = between-true 1 hubs-most (m .from) (t 1) in
     record { term = terms .0; last = terms .1; from = hubs .0; seven = hubs .1; to = t 2; body = t 3 }
 
 -- There are no others.
 pub is-legalMessage : (m : Message) → IsMessage m → legalMessage m ≡ true
 unfolding legalMessage
 is-legalMessage m i =
-    and-both (is-between 1 term-most (m .term) (i .term) (i .last))
-    (and-both (is-between 1 hubs-most (m .from) (i .from) (i .seven)) (and-both (i .to) (i .body)))
+    and-both (between-in 1 term-most (m .term) (i .term) (i .last))
+    (and-both (between-in 1 hubs-most (m .from) (i .from) (i .seven)) (and-both (i .to) (i .body)))

@@ -18,7 +18,9 @@ use Rattle.rules.specs.Events.{isLeader, isCandidate, len, says, withTer
 use Rattle.rules.specs.Receive.{Effect, idle, effect, vote, rule, isMisaddressed, isRequest, isStale, staleReply, contradicts, raised, afterRaise, atOwnTerm, receive}
 use Rattle.rules.specs.Theorems.{Grows, Says, ChangesNothing, NothingNew}
 use Rattle.rules.proofs.BoolLaws.{and-first, and-either, or-either, or-first, or-second, cond-either, not-both}
-use Rattle.rules.proofs.EntryLaws.{is-between, legalEntries-wider, legalEntries-drop, lastTerm, lastTerm-from, legalEntries-take}
+use Rattle.kinds.proofs.BetweenLaws.{between-in}
+use Rattle.command.proofs.EntryLaws.{legalEntries-wider}
+use Rattle.rules.proofs.EntryLaws.{legalEntries-drop, lastTerm, lastTerm-from, legalEntries-take}
 use Rattle.rules.proofs.LegalLaws.{IsWho, IsKept, IsMessage, legalState-kept, follower-legal}
 use Rattle.rules.proofs.MessageLaws.{request-is, yes-is, is-yes, append-is}
 use Rattle.rules.proofs.Fair.{Fair, Fine, idles, does, IsPeer, grows-same, grows-then, writes-none, writes-one, says-legal, some-not-none, refuses-fair, goes-fair}
@@ -36,7 +38,7 @@ module _ (w : Who) (i : IsWho w) where
       → (legalTo from (vote k last ballot) ≡ true) × (legalBody (k .term) (vote k last ballot) ≡ true)
   unfolding vote legalTo legalBody
   vote-legal k from last ballot kept p within below =
-      let peer = is-between 1 hubs-most from (p .first) (omega (arith, p .last, i .most)) in
+      let peer = between-in 1 hubs-most from (p .first) (omega (arith, p .last, i .most)) in
       let left = length-drop last (k .log) in
       let on = legalEntries-drop 1 (k .ballot) last (k .log) (kept .entries) in
       let up = lastTerm-from 1 (k .ballot) (take last (k .log)) (legalEntries-take 1 (k .ballot) last (k .log) (kept .entries)) in
@@ -57,7 +59,7 @@ module _ (w : Who) (i : IsWho w) where
 
   module _ (s : State) (h : legalState w s ≡ true) (first : 1 ≤ s .kept .term) (from : ℕ) (p : IsPeer w from) where
     peer : between 1 hubs-most from ≡ true
-    peer = is-between 1 hubs-most from (p .first) (omega (arith, p .last, i .most))
+    peer = between-in 1 hubs-most from (p .first) (omega (arith, p .last, i .most))
 
     -- At a hub of the message's term that the message does not contradict; a vote-request only where the ballot is below the term.
     rule-fine :

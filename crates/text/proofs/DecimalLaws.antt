@@ -10,7 +10,7 @@ use lib.ListN.{length, getD, length-append}
 use borrow.Author.Tests.{lt-ltb, le-ltb, ltb-true, ltb-false, eq-eqb, ne-eqb, eqb-true, eqb-false}
 use Rattle.text.specs.Decimal.{zero-digit, isDigit, digits, decimal, moreDigits, number}
 use Rattle.text.specs.Reader.{got, lost}
-use Rattle.text.proofs.BetweenLaws.{between-in, between-true}
+use Rattle.kinds.proofs.BetweenLaws.{between-in, between-true}
 use Rattle.text.proofs.ReaderLaws.{got-value, got-rest, lost-never}
 
 -- ---- the text

@@ -18,7 +18,7 @@ use Rattle.text.specs.declared.Next.{Next}
 use Rattle.text.specs.declared.Next.the-variants.{At, Bad as Next·Bad}
 use Rattle.text.specs.declared.Number.{Number}
 use Rattle.text.specs.declared.Number.the-variants.{Is, Bad as Number·Bad}
-use Rattle.text.proofs.BetweenLaws.{between-below, between-above}
+use Rattle.kinds.proofs.BetweenLaws.{between-below, between-above}
 use Rattle.text.proofs.DecimalLaws.{digit-is, more-end, more-digit, more-other, number-end, number-zero, number-first, number-other}
 use Rattle.text.proofs.RangeLaws.{within-in, within-sound, more-above, numberIn-lost, numberIn-below, numberIn-other, numberIn-ended, lineIn-nil}
 use Rattle.text.proofs.ReaderLaws.{got-value, got-rest, onward-got, onward-lost, onward-sound, literal-same, literal-other}

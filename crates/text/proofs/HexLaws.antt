@@ -11,7 +11,7 @@ use Rattle.kinds.specs.Sizes.{between}
 use Rattle.text.specs.Decimal.{isDigit}
 use Rattle.text.specs.Hex.{hexDigit, hex, nibble, hexByte, hexBytes}
 use Rattle.text.specs.Reader.{got, lost, _>>=_, pure}
-use Rattle.text.proofs.BetweenLaws.{between-in, between-above, between-true}
+use Rattle.kinds.proofs.BetweenLaws.{between-in, between-above, between-true}
 use Rattle.text.proofs.ReaderLaws.{got-value, got-rest, got-same, lost-never, onward-got, onward-sound, Reads, reads-then}
 
 -- Every element is a byte. (Past the end `getD` finds 0.)

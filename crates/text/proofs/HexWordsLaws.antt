@@ -17,7 +17,7 @@ use Rattle.text.specs.HexWords.{no-digit, digitOf, IsTable, pairAt, byte
 use Rattle.text.specs.Reader.{Got, got, lost, onward, pure}
 use Rattle.text.specs.declared.Word.{Word}
 use Rattle.text.specs.declared.Word.the-variants.{Is as Word·Is, Bad as Word·Bad}
-use Rattle.text.proofs.BetweenLaws.{between-true}
+use Rattle.kinds.proofs.BetweenLaws.{between-true}
 use Rattle.text.proofs.FoundLaws.{drop-next}
 use Rattle.text.proofs.HexLaws.{digit-low, digit-high, nibble-digit, nibble-letter, nibble-other, nibble-written, nibble-sound, hex-sound, hex-length}
 use Rattle.text.proofs.ReaderLaws.{onward-got, onward-lost, onward-pure, onward-assoc}

@@ -1,4 +1,3 @@
-pub mod BetweenLaws
 pub mod ReaderLaws
 pub mod DecimalLaws
 pub mod LineLaws

@@ -8,7 +8,7 @@ use lib.ListN.{length, length-append}
 use Rattle.text.specs.Decimal.{isDigit, decimal, number}
 use Rattle.text.specs.Line.{LF, lineText, line}
 use Rattle.text.specs.Reader.{got, Reader, onward, _>>=_, _>>_, pure, literal}
-use Rattle.text.proofs.BetweenLaws.{between-below}
+use Rattle.kinds.proofs.BetweenLaws.{between-below}
 use Rattle.text.proofs.DecimalLaws.{number-written, number-sound, decimal-ten}
 use Rattle.text.proofs.ReaderLaws.{got-value, got-rest, onward-got, onward-sound, Reads, reads-then, behind, literal-written, literal-sound}
 

@@ -11,7 +11,7 @@ use Rattle.text.specs.Decimal.{isDigit, moreDigits, number}
 use Rattle.text.specs.Line.{line}
 use Rattle.text.specs.Range.{within, numberIn, lineIn}
 use Rattle.text.specs.Reader.{Got, got, lost, onward, literal}
-use Rattle.text.proofs.BetweenLaws.{between-in, between-below, between-above, between-true}
+use Rattle.kinds.proofs.BetweenLaws.{between-in, between-below, between-above, between-true}
 use Rattle.text.proofs.DecimalLaws.{more-end, more-digit, more-other}
 use Rattle.text.proofs.ReaderLaws.{lost-never, onward-got, onward-lost, onward-never, onward-assoc}
 
