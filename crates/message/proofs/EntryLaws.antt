@@ -127,7 +127,7 @@ module _ (s : List ℕ) (at low high : ℕ) where
 -- ---- a line whose command is legal
 
 -- An entry is one whose command is looked at afterwards.
-entryIn-line : (low high : ℕ) (s : List ℕ) → entryIn low high s ≡ onward (entryLine low high s) legalOnly
+pub entryIn-line : (low high : ℕ) (s : List ℕ) → entryIn low high s ≡ onward (entryLine low high s) legalOnly
 unfolding entryIn entryLine onward
 entryIn-line low high s = sym (simp onward-assoc)
 

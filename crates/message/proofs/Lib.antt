@@ -11,3 +11,4 @@ pub mod RangeLaws
 pub mod OpeningLaws
 pub mod AnswerLaws
 pub mod RowsLaws
+pub mod WalkLaws

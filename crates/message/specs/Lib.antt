@@ -9,3 +9,4 @@ pub mod Answer
 pub mod Found
 pub mod Part
 pub mod Rows
+pub mod Write

@@ -231,7 +231,7 @@ fn no_voters(vs: [bool; 7], at: u32) -> bool
 }
 
 // How many voters there are.
-fn count_voters(vs: [bool; 7]) -> u32
+pub fn count_voters(vs: [bool; 7]) -> u32
     ensures { λ r. ⌜ r ≡ count (λ v. v) vs ⌝ }
 {
     let mut n: u32 = 0;

@@ -8,7 +8,9 @@ use lib.Dec.{eqb}
 use lib.ListN.{length}
 use Rattle.kinds.specs.Sizes.{Who, isSize, isHub, term-most, limit}
 use Rattle.command.specs.Answers.{isCommand}
-use Rattle.message.specs.Message.{Message, append-yes}
+use Rattle.message.specs.Message.{Message, vote-yes, append, append-yes}
+use Rattle.message.specs.Legal.{legalBody}
+use Rattle.message.specs.Walk.{entriesFrom, Lie}
 use Rattle.state.specs.declared.Head.{Head}
 use Rattle.state.specs.State.{State}
 use Rattle.state.specs.Image.{image, stateIn, readState}
@@ -98,6 +100,24 @@ pub record HearsEnd (w : Who) (l : List ℕ) (from end : ℕ) : Type 0 where
   pub last : from ≤ w .size
   pub other : from ≡ w .own → ⊥
   pub agrees : contradicts (stateIn l) (append-yes end) ≡ false
+
+-- What holds where a vote-yes is heard: it comes from another hub of the group, is legal at the hub's term, and does not contradict; its entry lines
+-- stand in s.
+pub record HearsYes (w : Who) (l : List ℕ) (from last ballot count : ℕ) (s : List ℕ) : Type 0 where
+  pub ready : Ready w l
+  pub first : 1 ≤ from
+  pub within : from ≤ w .size
+  pub other : from ≡ w .own → ⊥
+  pub lie : Lie count s
+  pub legal : legalBody (stateIn l .kept .term) (vote-yes last ballot (entriesFrom count s)) ≡ true
+  pub agrees : contradicts (stateIn l) (vote-yes last ballot (entriesFrom count s)) ≡ false
+
+-- What holds where an append is heard: it is legal at the hub's term, and the hub does not lead; its entry lines stand in s.
+pub record HearsAppend (w : Who) (l : List ℕ) (prev prevterm chosen count : ℕ) (s : List ℕ) : Type 0 where
+  pub ready : Ready w l
+  pub lie : Lie count s
+  pub legal : legalBody (stateIn l .kept .term) (append prev prevterm chosen (entriesFrom count s)) ≡ true
+  pub agrees : contradicts (stateIn l) (append prev prevterm chosen (entriesFrom count s)) ≡ false
 
 -- Whether the rules do anything with a message.
 unfoldable pub isEffect : Effect → Bool

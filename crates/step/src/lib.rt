@@ -80,14 +80,14 @@ pub struct Words {
 // ---- rows and bytes
 
 // Where row i of the table stands.
-fn row_at(i: u32) -> usize
+pub fn row_at(i: u32) -> usize
     ensures { λ r. ⌜ r ≡ head-size + i * row-size ⌝ }
 {
     HEAD + (i as usize) * ROW
 }
 
 // The words of the command in the 16 bytes from a place on.
-fn words_at(s: &[u8], at: usize) -> Words
+pub fn words_at(s: &[u8], at: usize) -> Words
     requires { ⌜ at + 16 ≤ length (now s) ⌝ }
     ensures { λ r. ⌜ r ≡ wordsAt at (now (s .entry)) ⌝ }
 {
@@ -100,7 +100,7 @@ fn words_at(s: &[u8], at: usize) -> Words
 }
 
 // Writes the 16 bytes of a command.
-fn put_words(s: &mut [u8], at: usize, c: Words)
+pub fn put_words(s: &mut [u8], at: usize, c: Words)
     requires { ⌜ at + 16 ≤ length (now s) ⌝ }
     ensures { λ _. ⌜ now (s .exit) ≡ sets (now (s .entry)) at (wordsBytes c) ⌝ }
 {
@@ -111,7 +111,7 @@ fn put_words(s: &mut [u8], at: usize, c: Words)
 }
 
 // Writes a row of the table: its number, and its command.
-fn put_row(s: &mut [u8], at: usize, number: u32, c: Words)
+pub fn put_row(s: &mut [u8], at: usize, number: u32, c: Words)
     requires { ⌜ at + 20 ≤ length (now s) ⌝ }
     ensures { λ _. ⌜ now (s .exit) ≡ sets (now (s .entry)) at (rowWords number c) ⌝ }
 {
@@ -120,7 +120,7 @@ fn put_row(s: &mut [u8], at: usize, number: u32, c: Words)
 }
 
 // Clears the bytes from one place to another.
-fn clear(s: &mut [u8], from: usize, to: usize)
+pub fn clear(s: &mut [u8], from: usize, to: usize)
     requires { ⌜ (from ≤ to) × (to ≤ length (now s)) ⌝ }
     ensures { λ _. ⌜ now (s .exit) ≡ sets (now (s .entry)) from (replicate (to - from) 0) ⌝ }
 {
@@ -132,7 +132,7 @@ fn clear(s: &mut [u8], from: usize, to: usize)
 }
 
 // Gives n rows from a place on another number; their commands stay.
-fn renumber(s: &mut [u8], from: usize, n: u32, number: u32)
+pub fn renumber(s: &mut [u8], from: usize, n: u32, number: u32)
     requires { ⌜ from + n * 20 ≤ length (now s) ⌝ }
     ensures { λ _. ⌜ now (s .exit) ≡ renumbered (now (s .entry)) from n number ⌝ }
 {
@@ -148,7 +148,7 @@ fn renumber(s: &mut [u8], from: usize, n: u32, number: u32)
 // ---- heads
 
 // A follower of this term, lost parts cleared.
-fn follow(h: Head, t: Term) -> Head
+pub fn follow(h: Head, t: Term) -> Head
     ensures { λ r. ⌜ r ≡ following h t ⌝ }
 {
     let nobody = [false; 7];
@@ -190,7 +190,7 @@ fn grow(h: Head, own: Hub) -> Head
 }
 
 // A leader whose log n gathered entries have joined: ballot = term, lost parts cleared, own confirmed length = length.
-fn lead(h: Head, own: Hub, n: u32) -> Head
+pub fn lead(h: Head, own: Hub, n: u32) -> Head
     requires { ⌜ (1 ≤ own .0) × (own .0 ≤ 7) × (h .length .0 + n ≤ 4294967295) ⌝ }
     ensures { λ r. ⌜ r ≡ leading h (own .0) n ⌝ }
 {
@@ -206,7 +206,7 @@ fn lead(h: Head, own: Hub, n: u32) -> Head
 }
 
 // A follower that took an append: ballot = term, with this chosen count and this length.
-fn take_head(h: Head, chosen: Place, n: Place) -> Head
+pub fn take_head(h: Head, chosen: Place, n: Place) -> Head
     ensures { λ r. ⌜ r ≡ taking h chosen n ⌝ }
 {
     let t = h.term;
@@ -240,7 +240,7 @@ fn is_fit(g: Group, event: u32, state: &[u8]) -> bool
 }
 
 // The refusals before every event, in document 01's order: 1, 2, 3; 0 if there is none.
-fn refusal_before(g: Group, event: u32, state: &[u8], out: &[u8]) -> u32
+pub fn refusal_before(g: Group, event: u32, state: &[u8], out: &[u8]) -> u32
     ensures { λ r. ⌜ r ≡ gate (whoIn g) event (now (state .entry)) (now (out .entry)) ⌝ }
 {
     if !is_known(g, event) {
@@ -258,7 +258,7 @@ fn refusal_before(g: Group, event: u32, state: &[u8], out: &[u8]) -> u32
 // ---- changes of the state that several events make
 
 // Clears the gathered rows behind the log.
-fn clear_gathered(h: Head, state: &mut [u8])
+pub fn clear_gathered(h: Head, state: &mut [u8])
     requires { ⌜ (h .length .0 + h .gathered .0 ≤ limit) × (length (now state) ≡ state-size) ⌝ }
     ensures { λ _. ⌜ now (state .exit) ≡ sets (now (state .entry)) (head-size + h .length .0 * row-size) (replicate (h .gathered .0 * row-size) 0) ⌝ }
 {
@@ -267,7 +267,7 @@ fn clear_gathered(h: Head, state: &mut [u8])
 }
 
 // Becomes a follower of its own term or of a higher one, lost parts cleared.
-fn raise_in(g: Group, h: Head, t: Term, state: &mut [u8])
+pub fn raise_in(g: Group, h: Head, t: Term, state: &mut [u8])
     requires { ⌜ Raises (whoIn g) h (t .0) (now state) ⌝ }
     ensures { λ _. ⌜ now (state .exit) ≡ image (raised (stateIn (now (state .entry))) (t .0)) ⌝ }
 {
@@ -278,7 +278,7 @@ fn raise_in(g: Group, h: Head, t: Term, state: &mut [u8])
 // ---- start
 
 // Follower or candidate: term +1; candidate; voters = itself; rest of the lost parts cleared.
-fn start_in(g: Group, h: Head, state: &mut [u8])
+pub fn start_in(g: Group, h: Head, state: &mut [u8])
     requires { ⌜ Starts (whoIn g) h (now state) ⌝ }
     ensures { λ _. ⌜ now (state .exit) ≡ image (started (whoIn g) (stateIn (now (state .entry)))) ⌝ }
 {
@@ -289,7 +289,7 @@ fn start_in(g: Group, h: Head, state: &mut [u8])
 // ---- restart
 
 // Lost parts cleared, follower: whatever stood in the lost parts.
-fn restart_in(state: &mut [u8])
+pub fn restart_in(state: &mut [u8])
     requires { ⌜ isSome (readKept (now state)) ≡ true ⌝ }
     ensures { λ _. ⌜ now (state .exit) ≡ image (restart (keptIn (now (state .entry))) .state) ⌝ }
 {
@@ -316,7 +316,7 @@ fn add_entry(g: Group, h: Head, state: &mut [u8], command: &[u8])
 }
 
 // Propose (leader): the command is added with the present term; own confirmed length follows.
-fn propose_at(g: Group, state: &mut [u8], command: &[u8]) -> u32
+pub fn propose_at(g: Group, state: &mut [u8], command: &[u8]) -> u32
     requires { ⌜ Ready (whoIn g) (now state) ⌝ }
     ensures { λ r. ⌜ Quiet (propose (whoIn g) (stateIn (now (state .entry))) (readProposal (now (command .entry)))) (now (state .entry)) r (now (state .exit)) ⌝ }
 {
@@ -368,7 +368,7 @@ fn majority_place(n: u32, confirmed: [Place; 7]) -> Place
     Place::of(0)
 }
 
-fn greater(a: Place, b: Place) -> Place
+pub fn greater(a: Place, b: Place) -> Place
     ensures { λ r. ⌜ r ≡ place (max (a .0) (b .0)) ⌝ }
 {
     if a.below(b) {
@@ -403,7 +403,7 @@ fn is_more(h: Head, from: Hub, end: Place) -> bool
 }
 
 // append-yes at a leader, with a greater end than recorded: recorded. Otherwise nothing.
-fn hear_end(g: Group, state: &mut [u8], from: Hub, end: Place) -> bool
+pub fn hear_end(g: Group, state: &mut [u8], from: Hub, end: Place) -> bool
     requires { ⌜ HearsEnd (whoIn g) (now state) (from .0) (end .0) ⌝ }
     ensures { λ r. ⌜ Ruled (heardEnd (whoIn g) (stateIn (now (state .entry))) (from .0) (end .0)) (now (state .entry)) r (now (state .exit)) ⌝ }
 {
@@ -421,7 +421,7 @@ fn hear_end(g: Group, state: &mut [u8], from: Hub, end: Place) -> bool
 // ---- append
 
 // The term of the entry at a place of the log, which is not 0.
-fn term_of(g: Group, h: Head, p: Place, state: &[u8]) -> Term
+pub fn term_of(g: Group, h: Head, p: Place, state: &[u8]) -> Term
     requires { ⌜ Tested (whoIn g) h (now state) × (1 ≤ p .0) × (p .0 ≤ h .length .0) ⌝ }
     ensures { λ r. ⌜ r ≡ term (termAt (stateIn (now (state .entry)) .kept .log) (p .0)) ⌝ }
 {
@@ -443,7 +443,7 @@ fn is_following(g: Group, h: Head, prev: Place, prevterm: Term, state: &[u8]) ->
 }
 
 // Whether an append fits: it follows, and also ballot = term or prev+count ≥ length.
-fn is_fitting(g: Group, h: Head, prev: Place, prevterm: Term, end: Place, state: &[u8]) -> bool
+pub fn is_fitting(g: Group, h: Head, prev: Place, prevterm: Term, end: Place, state: &[u8]) -> bool
     requires { ⌜ Tested (whoIn g) h (now state) ⌝ }
     ensures { λ r. ⌜ r ≡ fits (stateIn (now (state .entry)) .kept) (prev .0) (prevterm .0) (end .0) ⌝ }
 {
