@@ -7,7 +7,7 @@ ghost use lib.Seq.{sets};
 ghost use Rattle.command.specs.Answers.{Answers, written, told, commandWith};
 ghost use Rattle.kinds.specs.Sizes.{limit, text-room};
 ghost use Rattle.state.specs.Image.{state-size};
-ghost use Rattle.step.specs.Report.{Reports, reportOf, chosenOf};
+ghost use Rattle.report.specs.Report.{Reports, reportOf, chosenOf};
 ghost use Rattle.kritnamon.specs.Message.{Tells, tells};
 ghost use Rattle.kritnamon.specs.Numbers.{kindIn, ownIn, numbersIn};
 use message::Body;
@@ -156,7 +156,7 @@ pub extern "C" fn kritnamon_output_size() -> usize
 pub extern "C" fn kritnamon_chosen(state: &[u8]) -> u64
     ensures { λ r. ⌜ r ≡ chosenOf (now (state .entry)) ⌝ }
 {
-    step::chosen_places(state)
+    report::chosen_places(state)
 }
 
 // The command that a hub reports at a place, into the first 16 bytes of `out`. A refusal (2: kept parts not legal; 3: too little room;
@@ -165,5 +165,5 @@ pub extern "C" fn kritnamon_chosen(state: &[u8]) -> u64
 pub extern "C" fn kritnamon_reported(state: &[u8], place: u32, out: &mut [u8]) -> u32
     ensures { λ r. ⌜ Reports (reportOf (now (state .entry)) place (now (out .entry))) r (now (out .exit)) ⌝ }
 {
-    step::reported_at(state, place, out)
+    report::reported_at(state, place, out)
 }

@@ -7,7 +7,6 @@ pub mod LostLaws
 pub mod ConfirmedLaws
 pub mod ProposeLaws
 pub mod EndLaws
-pub mod ReportLaws
 pub mod StepLaws
 pub mod RowLaws
 pub mod LeadLaws

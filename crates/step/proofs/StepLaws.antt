@@ -5,10 +5,11 @@ use mathlib.Core.Path.{_≡_, refl, sym, _∙_, ap}
 use mathlib.Core.Bool.{Bool, true, false, cond, _&&_}
 use mathlib.Core.List.{List}
 use mathlib.Core.Option.{Option, none, some}
-use borrow.Author.Tests.{ne-eqb, leb-true}
+use borrow.Author.Tests.{ne-eqb, leb-true, ltb-false}
 use lib.Dec.{leb, ltb, eqb}
 use lib.ListN.{length}
 use Rattle.kinds.specs.Sizes.{Who, between, isSize, isHub, text-room}
+use Rattle.kinds.proofs.BetweenLaws.{between-true}
 use Rattle.command.specs.Proposal.{readProposal}
 use Rattle.message.specs.Text.{read}
 use Rattle.state.specs.State.{Kept, State}
@@ -62,6 +63,14 @@ unlisted (suc (suc (suc (suc (suc zero))))) h = absurd (let z : _≡_ {A = ℕ} 
 unlisted (suc (suc (suc (suc (suc (suc n)))))) h =
     let m = suc (suc (suc (suc (suc (suc n))))) in
     rw (ne-eqb m 1 (λ e. omega arith), ne-eqb m 2 (λ e. omega arith), ne-eqb m 3 (λ e. omega arith), ne-eqb m 4 (λ e. omega arith), ne-eqb m 5 (λ e. omega arith))
+
+above : (k n : ℕ) → k ≤ n → (n ≡ k → ⊥) → k < n
+above k n h other = omega (arith, other)
+
+last : (n : ℕ) → (1 ≤ n) × (n ≤ 5) → (n ≡ 1 → ⊥) → (n ≡ 2 → ⊥) → (n ≡ 3 → ⊥) → (n ≡ 4 → ⊥) → n ≡ 5
+last n (from, to) first second third fourth =
+    let p = above 4 n (above 3 n (above 2 n (above 1 n from first) second) third) fourth in
+    omega (arith, p)
 
 -- ---- the whole call
 
@@ -156,6 +165,15 @@ module _ (c : Call) where
     -- The kept parts are legal for a restart.
     pub step-kept : c .event ≡ 4 → isSome (readKept (c .state)) ≡ true
     step-kept e = sym (fit-restart (c .who) (c .event) (c .state) e) ∙ gate-passed h .1
+
+    -- The output has its room.
+    pub step-room : text-room ≤ length (c .output)
+    step-room = ltb-false (length (c .output)) text-room (gate-passed h .2)
+
+    -- An event that is none of the first four is the fifth.
+    pub step-fifth : (c .event ≡ 1 → ⊥) → (c .event ≡ 2 → ⊥) → (c .event ≡ 3 → ⊥) → (c .event ≡ 4 → ⊥) → c .event ≡ 5
+    step-fifth first second third fourth =
+        last (c .event) (between-true 1 5 (c .event) (open-parts .2)) first second third fourth
 
     -- The event that has this number, at the state that it sees.
     acts : (e : Event) (s : State) → eventOf (c .event) ≡ some e → seen (c .who) e (c .state) ≡ some s → stepOf c ≡ acting c e s

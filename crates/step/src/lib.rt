@@ -19,7 +19,6 @@ ghost use Rattle.step.specs.Promise.{whoIn, Ready, Quiet, Ruled, Adds, S
 ghost use Rattle.step.specs.Gate.{isKnown, isFit, gate};
 ghost use Rattle.step.specs.Heads.{following, standing, grown, confirming, leading, taking};
 ghost use Rattle.step.specs.Append.{follows, Tested};
-ghost use Rattle.step.specs.Report.{Reports, reportOf, chosenOf};
 ghost use Rattle.step.specs.Words.{wordsAt, wordsBytes, rowWords, renumbered};
 use kinds::Hub;
 use kinds::Place;
@@ -30,9 +29,6 @@ use state::Head;
 const HEAD: usize = 56;
 
 const ROW: usize = 20;
-// The bytes of a command.
-const COMMAND: usize = 16;
-
 // The least bytes of an output.
 const OUTPUT: usize = 16_384;
 
@@ -60,8 +56,6 @@ const WRONG_ROLE: u32 = 8;
 const BAD_COMMAND: u32 = 10;
 
 const LOG_FULL: u32 = 11;
-
-const NOT_REPORTED: u32 = 12;
 
 // The group's size and the own number: what every call says of the hub.
 pub struct Group {
@@ -453,40 +447,7 @@ pub fn is_fitting(g: Group, h: Head, prev: Place, prevterm: Term, end: Place, st
     h.ballot.equals(h.term) | (h.length.number() <= end.number())
 }
 
-// ---- what a hub reports, and sizes
-
-// The command that a hub reports at a place: its 16 bytes at the start of `out`. A refusal (2: kept parts not legal; 3: too little room; 12: the place is not in
-// 1..chosen) leaves every byte.
-pub fn reported_at(state: &[u8], place: u32, out: &mut [u8]) -> u32
-    ensures { λ r. ⌜ Reports (reportOf (now (state .entry)) place (now (out .entry))) r (now (out .exit)) ⌝ }
-{
-    if !state::is_kept_legal(state) {
-        return BAD_STATE;
-    }
-    if out.len() < COMMAND {
-        return SHORT_OUTPUT;
-    }
-    if place == 0 {
-        return NOT_REPORTED;
-    }
-    let h = state::read_head(state);
-    if h.chosen.number() < place {
-        return NOT_REPORTED;
-    }
-    put_words(out, 0, words_at(state, row_at(place - 1) + 4));
-    DONE
-}
-
-// How many commands a hub reports, times 2^32; or 2 if the kept parts are not legal.
-pub fn chosen_places(state: &[u8]) -> u64
-    ensures { λ r. ⌜ r ≡ chosenOf (now (state .entry)) ⌝ }
-{
-    if !state::is_kept_legal(state) {
-        return BAD_STATE as u64;
-    }
-    let h = state::read_head(state);
-    (h.chosen.number() as u64) * 4_294_967_296
-}
+// ---- sizes
 
 // The least bytes of an output.
 pub fn output_bytes() -> usize

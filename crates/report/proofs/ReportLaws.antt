@@ -23,12 +23,12 @@ use Rattle.state.proofs.LegalLaws.{legalKept-is}
 use Rattle.state.proofs.PartLaws.{part-drop}
 use Rattle.state.proofs.ImageLaws.{readKept-sound}
 use Rattle.rules.specs.Outcome.{done, bad-state, short-output, bad-send}
 use Rattle.step.specs.declared.Words.{Words}
 use Rattle.step.specs.Words.{commandIn, wordsAt, wordsBytes}
-use Rattle.step.specs.Report.{commandAt, Report, told, reporting, reportOf, Reports, counting, chosenOf}
+use Rattle.report.specs.Report.{commandAt, Report, told, reporting, reportOf, Reports, counting, chosenOf}
 use Rattle.step.proofs.GateLaws.{readKept-some, readKept-none}
 use Rattle.step.proofs.WordsLaws.{commandIn-at, command-words, duration-below}
 use Rattle.step.proofs.LostLaws.{kept-length, kept-size, kept-within}
 
 -- Two answers that both satisfy the promise of a report are equal.
 pub reports-unique : {a : Report} {r r′ : ℕ} {out out′ : List ℕ} → Reports a r out → Reports a r′ out′ → (r ≡ r′) × (out ≡ out′)

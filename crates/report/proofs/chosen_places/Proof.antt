@@ -1,4 +1,4 @@
--- `step::chosen_places` meets its contract. Assumes nothing.
+-- `report::chosen_places` meets its contract. Assumes nothing.
 use Prim.Native.Nat.{ℕ, _*_}
 use mathlib.Core.Path.{_≡_, sym, _∙_, ap}
 use native.Mathlib.Omega.{arith}
@@ -6,10 +6,10 @@ use borrow.Author.Needs.{needs}
 use borrow.Author.Tests.{not-true, not-false}
 use Rattle.state.specs.declared.Head.{Head}
 use Rattle.state.specs.Image.{state-size}
 use Rattle.step.proofs.LostLaws.{kept-size}
-use Rattle.step.proofs.ReportLaws.{chosen-bad, chosen-counted}
-use Rattle.step.proofs.chosen_places.Statement.{statement}
-use Rattle.step.proofs.chosen_places.Tie as tie
+use Rattle.report.proofs.ReportLaws.{chosen-bad, chosen-counted}
+use Rattle.report.proofs.chosen_places.Statement.{statement}
+use Rattle.report.proofs.chosen_places.Tie as tie
 
 -- Kept parts that are not legal.
 refused : tie.Need-returns

@@ -1,4 +1,4 @@
--- `step::reported_at` meets its contract: each `return` is one answer. Assumes nothing.
+-- `report::reported_at` meets its contract: each `return` is one answer. Assumes nothing.
 use Prim.Native.Nat.{ℕ, _+_, _-_, _*_, _≤_, _<_}
 use mathlib.Core.Path.{_≡_, refl, sym, _∙_, ap}
 use native.Mathlib.Omega.{arith}
@@ -6,10 +6,10 @@ use borrow.Author.Needs.{needs}
 use borrow.Author.Tests.{not-true, not-false}
 use Rattle.state.specs.declared.Head.{Head}
 use Rattle.state.specs.Image.{state-size}
 use Rattle.step.proofs.LostLaws.{kept-size}
-use Rattle.step.proofs.ReportLaws.{reported-bad, reported-short, reported-zero, reported-past, reported-inside, reported-done}
-use Rattle.step.proofs.reported_at.Statement.{statement}
-use Rattle.step.proofs.reported_at.Tie as tie
+use Rattle.report.proofs.ReportLaws.{reported-bad, reported-short, reported-zero, reported-past, reported-inside, reported-done}
+use Rattle.report.proofs.reported_at.Statement.{statement}
+use Rattle.report.proofs.reported_at.Tie as tie
 
 -- Kept parts that are not legal.
 bad : tie.Need-returns

@@ -1,0 +1,48 @@
+// What a hub reports: the commands at places 1 to chosen of its log, and no others. The kept parts of its state alone are looked at.
+ghost use mathlib.Core.Path.{_≡_};
+ghost use Rattle.report.specs.Report.{Reports, reportOf, chosenOf};
+
+// The bytes of a command.
+const COMMAND: usize = 16;
+
+// Document 01's outcomes.
+const DONE: u32 = 0;
+
+const BAD_STATE: u32 = 2;
+
+const SHORT_OUTPUT: u32 = 3;
+
+const NOT_REPORTED: u32 = 12;
+
+// The command that a hub reports at a place: its 16 bytes at the start of `out`. A refusal (2: kept parts not legal; 3: too little room; 12: the place is not in
+// 1..chosen) leaves every byte.
+pub fn reported_at(state: &[u8], place: u32, out: &mut [u8]) -> u32
+    ensures { λ r. ⌜ Reports (reportOf (now (state .entry)) place (now (out .entry))) r (now (out .exit)) ⌝ }
+{
+    if !state::is_kept_legal(state) {
+        return BAD_STATE;
+    }
+    if out.len() < COMMAND {
+        return SHORT_OUTPUT;
+    }
+    if place == 0 {
+        return NOT_REPORTED;
+    }
+    let h = state::read_head(state);
+    if h.chosen.number() < place {
+        return NOT_REPORTED;
+    }
+    step::put_words(out, 0, step::words_at(state, step::row_at(place - 1) + 4));
+    DONE
+}
+
+// How many commands a hub reports, times 2^32; or 2 if the kept parts are not legal.
+pub fn chosen_places(state: &[u8]) -> u64
+    ensures { λ r. ⌜ r ≡ chosenOf (now (state .entry)) ⌝ }
+{
+    if !state::is_kept_legal(state) {
+        return BAD_STATE as u64;
+    }
+    let h = state::read_head(state);
+    (h.chosen.number() as u64) * 4_294_967_296
+}
