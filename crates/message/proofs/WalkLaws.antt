@@ -1,5 +1,5 @@
--- Entry lines that stand in a text: the entries part of a message that was read, and one line after the other. Assumes nothing.
-use Prim.Native.Nat.{ℕ, _≤_}
+-- Entry lines that stand in a text: one line after the other, and the part of a message that was read. Assumes nothing.
+use Prim.Native.Nat.{ℕ, _-_, _≤_, _<_}
 use native.Mathlib.Omega.{arith}
 use mathlib.Core.Path.{_≡_, refl, sym, _∙_, ap, subst}
 use mathlib.Core.Bool.{Bool, true, false, _&&_}
@@ -90,6 +90,52 @@ unfolding entriesFrom
 entries-from low high es h =
     let g : entries (length es) (entriesText es) ≡ got es [] = rw append-nil at (entries-written es (entries-ranged low high es h) []) in
     rw (g, entriesFrom)
+
+-- No line is left.
+pub lie-none : (n : ℕ) (s : List ℕ) → Lie n s → n ≤ 0 → entriesFrom n s ≡ []
+lie-none n s lie h = empty (entriesFrom n s) (omega (arith, lie .count-is))
+  where
+    empty : (es : List Entry) → length es ≤ 0 → es ≡ []
+    empty [] h = refl
+    empty (e ∷ es) h = absurd (omega arith)
+
+-- What a walk finds where n lines stand: the first entry, and one line less behind it.
+pub record Walked (s : List ℕ) (at n : ℕ) (t : Term) (what duration a b next : ℕ) : Type 0 where
+  pub entries-are : entriesFrom n (drop at s) ≡ record { term = t .0; command = ofWords what duration a b } ∷ entriesFrom (n - 1) (drop next s)
+  pub lie : Lie (n - 1) (drop next s)
+
+module _
+    (s : List ℕ) (at n : ℕ) (lie : Lie n (drop at s)) (more : 0 < n)
+    (r : EntryAt) (found : FoundEntry s (entryLine 1 term-most (drop at s)) r)
+  where
+    -- The walk is not at its end.
+    pub lie-on : r ≡ End → ⊥
+    lie-on h = go (entriesFrom n (drop at s)) (lie .text-is) (lie .count-is) (lie .legal)
+      where
+        go : (es : List Entry) → drop at s ≡ entriesText es → length es ≡ n → legalEntries 1 term-most es ≡ true → ⊥
+        go [] here size legal = omega arith
+        go (e ∷ es) here size legal = stood-on s at e es here 1 (omega arith) legal r found h
+
+    -- It finds a line.
+    pub lie-next : (t : Term) (what duration a b next : ℕ) → r ≡ Is t what duration a b next → Walked s at n t what duration a b next
+    lie-next t what duration a b next h = go (entriesFrom n (drop at s)) refl (lie .text-is) (lie .count-is) (lie .legal)
+      where
+        go :
+            (es : List Entry) → entriesFrom n (drop at s) ≡ es → drop at s ≡ entriesText es → length es ≡ n → legalEntries 1 term-most es ≡ true
+            → Walked s at n t what duration a b next
+        go [] are here size legal = absurd (omega arith)
+        go (e ∷ es) are here size legal =
+            let first = legalEntries-first 1 term-most e es legal in
+            let stood = stood-at s at e es here 1 (omega arith) legal r found t what duration a b next h in
+            let others-legal = legalEntries-wider (e .term) 1 term-most term-most es (first .from) (omega arith) (first .rest) in
+            let one-less : n - 1 ≡ length es = omega arith in
+            let others : entriesFrom (n - 1) (drop next s) ≡ es = rw (one-less, stood .others) (entries-from 1 term-most es others-legal) in
+            record {
+              entries-are = rw (others, ← stood .entry-is) are;
+              lie = record { text-is = stood .others ∙ ap entriesText (sym others); count-is = ap length others ∙ sym one-less; legal = rw others others-legal };
+            }
+
+-- ---- the part of a message
 
 -- The part of a message's text that holds its entry lines, and what they say.
 pub record Follow (s : List ℕ) (m : Message) : Type 0 where

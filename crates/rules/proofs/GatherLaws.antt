@@ -28,7 +28,7 @@ use Rattle.rules.proofs.EventsLaws.{leads-legal}
 -- ---- gathered pairs
 
 -- A pair at each place that either has.
-gather-length : (gs : List Pair) (b : ℕ) (es : List Entry) → length (gather gs b es) ≡ max (length gs) (length es)
+pub gather-length : (gs : List Pair) (b : ℕ) (es : List Entry) → length (gather gs b es) ≡ max (length gs) (length es)
 unfolding gather
 gather-length [] b es = length-map es (λ e. record { ballot = b; command = e .command }) ∙ omega arith
 gather-length (g ∷ gs) b [] = omega arith

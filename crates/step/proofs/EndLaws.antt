@@ -11,7 +11,7 @@ use lib.Seq.{sets}
 use Rattle.kinds.specs.declared.Place.{Place}
 use Rattle.kinds.specs.Of.{place}
 use Rattle.kinds.specs.Sizes.{Who}
-use Rattle.message.specs.Message.{append-yes}
+use Rattle.message.specs.Message.{Message, append-yes}
 use Rattle.state.specs.declared.Head.{Head}
 use Rattle.state.specs.State.{Kept, Lost, follower, candidate, leader, State}
 use Rattle.state.specs.Legal.{legalState}
@@ -40,10 +40,10 @@ pub effect-ruled : {e : Effect} (next : State) (l l′ : List ℕ) → e ≡ eff
 unfolding isEffect ruledBy saidBy
 effect-ruled next l l′ h left = rw h (record { returned = refl; silent = refl; state-left = left })
 
--- The next state of a fine effect is legal.
-pub fine-legal : {w : Who} {s next : State} {e : Effect} → Fine w s e → e ≡ effect next none → legalState w next ≡ true
+-- The next state of a fine effect is legal, whatever is said.
+pub fine-legal : {w : Who} {s next : State} {message : Option Message} {e : Effect} → Fine w s e → e ≡ effect next message → legalState w next ≡ true
 fine-legal idles h = cc
-fine-legal {w} {s} {next} (does {next = n} sound new) h =
+fine-legal {next = next} (does {next = n} sound new) h =
     let same : n ≡ next = cc in
     rw same at (sound .legal)
 
