@@ -1,0 +1,3 @@
+pub mod GatheringLaws
+pub mod CountedLaws
+pub mod YesLaws

@@ -1,0 +1,4 @@
+pub mod EntriesLaws
+pub mod FollowLaws
+pub mod TakenLaws
+pub mod FittingLaws

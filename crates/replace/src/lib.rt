@@ -1,0 +1,123 @@
+// append at a hub of its term that does not lead: a follower that takes the message's entries if they fit. The entry lines stay in the lent text;
+// each entry goes from its line into its row.
+ghost use mathlib.Core.Path.{_≡_};
+ghost use Prim.Native.Nat.{_+_, _*_, _≤_};
+ghost use lib.ListN.{length, drop};
+ghost use lib.Seq.{sets};
+ghost use Rattle.message.specs.Walk.{entriesFrom, Lie};
+ghost use Rattle.state.specs.Image.{row-size, logRow, bytesOf, image, stateIn};
+ghost use Rattle.rules.specs.Receive.{fits};
+ghost use Rattle.step.specs.Promise.{whoIn, Ready, HearsAppend};
+ghost use Rattle.replace.specs.Taken.{takenBy, Followed, Heard};
+use kinds::Place;
+use kinds::Term;
+use message::EntryAt;
+use state::Head;
+use step::Group;
+use step::Words;
+
+// The bytes of a row of a state's table.
+const ROW: usize = 20;
+
+// The largest term.
+const TERM_MOST: u32 = 4_294_967_295;
+
+// ---- the rows
+
+// Writes the rows of so many entry lines of the text, from a place of the state's bytes on. The lines stand there, so the walk finds each of them.
+fn put_entries(state: &mut [u8], row: usize, count: u32, text: &[u8], at: usize)
+    requires { ⌜ Lie count (drop at (now text)) × (row + count * row-size ≤ length (now state)) ⌝ }
+    ensures { λ _. ⌜ now (state .exit) ≡ sets (now (state .entry)) row (bytesOf logRow (entriesFrom count (drop at (now (text .entry))))) ⌝ }
+{
+    let table = text::hex_table();
+    let mut to = row;
+    let mut from = at;
+    let mut left = count;
+    while 0 < left {
+        let EntryAt::Is {
+            term,
+            what,
+            duration,
+            a,
+            b,
+            next,
+        } = message::next_entry(text, &table, from, 1, TERM_MOST)
+        else {
+            return;
+        };
+        step::put_row(
+            state,
+            to,
+            term.number(),
+            Words {
+                what,
+                duration,
+                a,
+                b,
+            },
+        );
+        to += ROW;
+        from = next;
+        left -= 1;
+    }
+}
+
+// ---- the rule
+
+// A candidate becomes a follower, its lost parts cleared; a follower stays as it is. The head that the state has then.
+fn follow_in(g: Group, state: &mut [u8]) -> Head
+    requires { ⌜ Ready (whoIn g) (now state) ⌝ }
+    ensures { λ r. ⌜ Followed (whoIn g) (now (state .entry)) r (now (state .exit)) ⌝ }
+{
+    let h = state::read_head(state);
+    step::raise_in(g, h, h.term, state);
+    step::follow(h, h.term)
+}
+
+// append at a follower of its term: whether it fits. If it fits: where ballot = term and prev+count ≤ length the log stays; otherwise entries after prev
+// are replaced by the message's. Ballot = term; chosen = the greater of own and the message's.
+fn take_in(
+    g: Group,
+    h: Head,
+    state: &mut [u8],
+    prev: Place,
+    prevterm: Term,
+    chosen: Place,
+    count: u32,
+    text: &[u8],
+    at: usize,
+) -> bool
+    requires { ⌜ Heard (whoIn g) h (now state) (prev .0) (prevterm .0) (chosen .0) count (drop at (now text)) ⌝ }
+    ensures { λ r. ⌜ (r ≡ fits (stateIn (now (state .entry)) .kept) (prev .0) (prevterm .0) (prev .0 + count)) × (now (state .exit) ≡ image (takenBy (stateIn (now (state .entry))) (prev .0) (prevterm .0) (chosen .0) (entriesFrom count (drop at (now (text .entry)))))) ⌝ }
+{
+    let end = Place::of(prev.number() + count);
+    if !step::is_fitting(g, h, prev, prevterm, end, state) {
+        return false;
+    }
+    let most = step::greater(h.chosen, chosen);
+    if h.ballot.equals(h.term) & (end.number() <= h.length.number()) {
+        state::write_head(state, step::take_head(h, most, h.length));
+        return true;
+    }
+    put_entries(state, step::row_at(prev.number()), count, text, at);
+    state::write_head(state, step::take_head(h, most, end));
+    true
+}
+
+// append at own term: whether it fits. A candidate becomes follower, its lost parts cleared; if the append fits, its entries are taken.
+pub fn take_append(
+    g: Group,
+    state: &mut [u8],
+    prev: Place,
+    prevterm: Term,
+    chosen: Place,
+    count: u32,
+    text: &[u8],
+    at: usize,
+) -> bool
+    requires { ⌜ HearsAppend (whoIn g) (now state) (prev .0) (prevterm .0) (chosen .0) count (drop at (now text)) ⌝ }
+    ensures { λ r. ⌜ (r ≡ fits (stateIn (now (state .entry)) .kept) (prev .0) (prevterm .0) (prev .0 + count)) × (now (state .exit) ≡ image (takenBy (stateIn (now (state .entry))) (prev .0) (prevterm .0) (chosen .0) (entriesFrom count (drop at (now (text .entry)))))) ⌝ }
+{
+    let h = follow_in(g, state);
+    take_in(g, h, state, prev, prevterm, chosen, count, text, at)
+}
