@@ -21,11 +21,11 @@ use Rattle.text.specs.Wrote.{Wrote}
 -- ---- one text behind another
 
 -- There is room for the first of two.
-room-first : (l a b : List ℕ) (at : ℕ) → at + length (a ++ b) ≤ length l → at + length a ≤ length l
+pub room-first : (l a b : List ℕ) (at : ℕ) → at + length (a ++ b) ≤ length l → at + length a ≤ length l
 room-first l a b at h = omega (arith, h, length-append a b)
 
 -- Behind it there is room for the second.
-room-next : (l m a b : List ℕ) (at p : ℕ) → at + length (a ++ b) ≤ length l → Wrote l at a p m → p + length b ≤ length m
+pub room-next : (l m a b : List ℕ) (at p : ℕ) → at + length (a ++ b) ≤ length l → Wrote l at a p m → p + length b ≤ length m
 room-next l m a b at p h w = omega (arith, h, length-append a b, w .to, wrote-length w)
 
 -- ---- a line up to its command

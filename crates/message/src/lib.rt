@@ -133,7 +133,7 @@ pub struct Span {
 
 // ---- the bounds of ranges
 
-fn at_least_one(x: u32) -> u32
+pub fn at_least_one(x: u32) -> u32
     ensures { λ r. ⌜ r ≡ max 1 x ⌝ }
 {
     if x < 1 { 1 } else { x }
@@ -555,7 +555,7 @@ fn entries_in<'a>(
 }
 
 // The entries that follow these fields.
-fn span_of(f: Fields) -> Span
+pub fn span_of(f: Fields) -> Span
     ensures { λ r. ⌜ r ≡ spanOf (openingOf f) ⌝ }
 {
     let body = f.body;

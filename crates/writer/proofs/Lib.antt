@@ -1,0 +1,3 @@
+pub mod PartsLaws
+pub mod LegalLaws
+pub mod WrittenLaws

@@ -1,0 +1,203 @@
+-- Laws of the parts of a message's text: the lines of each type, that the parts and the entry lines are the whole text, and the room for each
+-- part. Assumes nothing.
+use Prim.Native.Nat.{ℕ, zero, suc, _+_, _*_, _≤_}
+use native.Mathlib.Omega.{arith}
+use mathlib.Core.Path.{_≡_, refl, _∙_, ap}
+use mathlib.Core.List.{List, [], _∷_, _++_, append-assoc, append-nil}
+use lib.ListN.{length, drop}
+use Rattle.kinds.specs.declared.Place.{Place}
+use Rattle.kinds.specs.declared.Term.{Term}
+use Rattle.text.specs.Ascii.{ascii}
+use Rattle.text.specs.Line.{LF, lineText}
+use Rattle.text.specs.Wrote.{Wrote}
+use Rattle.text.proofs.WroteLaws.{wrote-then}
+use Rattle.command.specs.Entry.{Entry}
+use Rattle.message.specs.Fields.{MessageType, term=, from=, to=, ownFields, fields, countIn, messageOf}
+use Rattle.message.specs.Text.{type=, name, linesText, entriesText, text}
+use Rattle.message.specs.Answer.{typeIn, ownIn, openingOf, spanOf}
+use Rattle.message.specs.Rows.{row-size, rowEntries}
+use Rattle.message.specs.Write.{countOf, messageWith, Puts}
+use Rattle.message.specs.declared.Body.{Body}
+use Rattle.message.specs.declared.Body.the-variants.{VoteRequest, VoteYes, VoteNo, Append, AppendYes, AppendNo}
+use Rattle.message.specs.declared.Fields.{Fields}
+use Rattle.message.specs.declared.Span.{Span}
+use Rattle.message.proofs.FieldsLaws.{typeOf-messageOf, entriesOf-messageOf, numbers-messageOf}
+use Rattle.message.proofs.ReadLaws.{text-most}
+use Rattle.message.proofs.RowsLaws.{room-first, room-next}
+use Rattle.writer.specs.Parts.{twoLines, typeText, headText, ownText}
+
+-- ---- a text by another name
+
+-- There is room for it,
+pub room-as : {a b : List ℕ} → a ≡ b → (l : List ℕ) (at : ℕ) → at + length a ≤ length l → at + length b ≤ length l
+room-as e l at h = rw (← e) h
+
+-- also at the start,
+pub room-start : {a b : List ℕ} → a ≡ b → (l : List ℕ) → length a ≤ length l → 0 + length b ≤ length l
+room-start e l h = omega (arith, h, ap length e)
+
+-- and it is written.
+pub wrote-as : {a b l m : List ℕ} {at p : ℕ} → a ≡ b → Wrote l at b p m → Wrote l at a p m
+wrote-as e w = rw e w
+
+-- Nothing is written.
+pub wrote-none : {l : List ℕ} {at : ℕ} → Wrote l at [] at l
+wrote-none = record { to = omega arith; text = refl }
+
+-- ---- a text of two parts
+
+-- The text w is a and b behind it.
+pub record Joins (w a b : List ℕ) : Type 0 where
+  pub is : w ≡ a ++ b
+
+-- There is room for the first.
+pub joins-room : {w a b : List ℕ} → Joins w a b → (l : List ℕ) (at : ℕ) → at + length w ≤ length l → at + length a ≤ length l
+joins-room {w} {a} {b} j l at h = room-first l a b at (rw (j .is) at h)
+
+-- Behind it there is room for the second.
+pub joins-next : {w a b l m : List ℕ} {at p : ℕ} → Joins w a b → at + length w ≤ length l → Wrote l at a p m → p + length b ≤ length m
+joins-next {w} {a} {b} {l} {m} {at} {p} j h v = room-next l m a b at p (rw (j .is) at h) v
+
+-- Both are the text.
+pub joins-wrote : {w a b l m n : List ℕ} {at p q : ℕ} → Joins w a b → Wrote l at a p m → Wrote m p b q n → Wrote l at w q n
+joins-wrote j v u = wrote-as (j .is) (wrote-then v u)
+
+-- ---- the lines of each type
+
+-- Two lines.
+pub two-lines : (key other : List ℕ) (x y : ℕ) → Joins (twoLines key x other y) (lineText key x) (lineText other y)
+two-lines key other x y = record { is = refl }
+
+-- The lines term, from and to.
+pub head-lines : (f : Fields) {t x y : ℕ} → t ≡ f .term .0 → x ≡ f .from .0 → y ≡ f .to .0
+    → Joins (headText f) (twoLines (ascii "term=") t (ascii "from=") x) (lineText (ascii "to=") y)
+unfolding headText linesText
+head-lines f p q r = record { is = rw (p, q, r) (simp (append-assoc, append-nil)) }
+
+-- A vote-request's own.
+pub request-lines : (last : Place) (ballot : Term) {x y : ℕ} → x ≡ last .0 → y ≡ ballot .0
+    → ownText (VoteRequest last ballot) ≡ twoLines (ascii "last=") x (ascii "ballot=") y
+unfolding ownText ownFields linesText
+request-lines last ballot p q = rw (p, q) (simp append-nil)
+
+-- A vote-yes's own.
+pub yes-lines : (last : Place) (ballot : Term) (count : ℕ) {x y : ℕ} → x ≡ last .0 → y ≡ ballot .0
+    → Joins (ownText (VoteYes last ballot count)) (twoLines (ascii "last=") x (ascii "ballot=") y) (lineText (ascii "count=") count)
+unfolding ownText ownFields linesText
+yes-lines last ballot count p q = record { is = rw (p, q) (simp (append-assoc, append-nil)) }
+
+-- A vote-no has none.
+pub no-lines : ownText VoteNo ≡ []
+unfolding ownText ownFields linesText
+no-lines = refl
+
+-- An append's own.
+pub append-lines : (prev : Place) (prevterm : Term) (chosen : Place) (count : ℕ) {x y z : ℕ} → x ≡ prev .0 → y ≡ prevterm .0 → z ≡ chosen .0
+    → Joins (ownText (Append prev prevterm chosen count)) (twoLines (ascii "prev=") x (ascii "prevterm=") y)
+    (twoLines (ascii "chosen=") z (ascii "count=") count)
+unfolding ownText ownFields linesText
+append-lines prev prevterm chosen count p q r = record { is = rw (p, q, r) (simp (append-assoc, append-nil)) }
+
+-- An append-yes's own.
+pub end-line : (end : Place) {x : ℕ} → x ≡ end .0 → ownText (AppendYes end) ≡ lineText (ascii "end=") x
+unfolding ownText ownFields linesText
+end-line end p = rw p (simp append-nil)
+
+-- An append-no's own.
+pub length-line : (n : Place) {x : ℕ} → x ≡ n .0 → ownText (AppendNo n) ≡ lineText (ascii "length=") x
+unfolding ownText ownFields linesText
+length-line n p = rw p (simp append-nil)
+
+-- ---- the whole text
+
+-- There are as many entries as rows are asked for.
+pub rows-many : (n : ℕ) (rows : List ℕ) → length (rowEntries n rows) ≡ n
+unfolding rowEntries
+rows-many zero rows = refl
+rows-many (suc n) rows = ap suc (rows-many n (drop row-size rows))
+
+-- A number for each of a type's own fields,
+own-many : (b : Body) → length (ownIn b) ≡ length (ownFields (typeIn b))
+unfolding ownFields
+own-many (VoteRequest last ballot) = refl
+own-many (VoteYes last ballot count) = refl
+own-many VoteNo = refl
+own-many (Append prev prevterm chosen count) = refl
+own-many (AppendYes end) = refl
+own-many (AppendNo n) = refl
+
+-- and for each of all.
+numbers-many : (f : Fields) → length (openingOf f .numbers) ≡ length (fields (openingOf f .type))
+unfolding fields
+numbers-many f = ap (λ (n : ℕ). suc (suc (suc n))) (own-many (f .body))
+
+-- The text of the message of a type, numbers and entries.
+text-of : (t : MessageType) (ns : List ℕ) (es : List Entry) → length ns ≡ length (fields t) → length es ≡ countIn t ns
+    → text (messageOf t ns es) ≡ type= ++ (name t ++ (LF ++ (linesText (fields t) ns ++ entriesText es)))
+unfolding text
+text-of t ns es n h = rw (typeOf-messageOf t ns es, numbers-messageOf t ns es n h, entriesOf-messageOf t ns es h)
+
+-- The lines of all fields are those of the head and those of the type's own.
+lines-split : (t : MessageType) (term from to : ℕ) (own : List ℕ)
+    → linesText (fields t) (term ∷ from ∷ to ∷ own)
+    ≡ linesText (term= ∷ from= ∷ to= ∷ []) (term ∷ from ∷ to ∷ []) ++ linesText (ownFields t) own
+unfolding fields linesText
+lines-split t term from to own = simp append-assoc
+
+-- What follows the lines before it: the entry lines, the type's own lines with them, and the head with both.
+abbrev entryLines : Fields → List ℕ → List ℕ
+entryLines f rows = entriesText (rowEntries (countOf f) rows)
+
+abbrev fromOwn : Fields → List ℕ → List ℕ
+fromOwn f rows = ownText (f .body) ++ entryLines f rows
+
+abbrev fromHead : Fields → List ℕ → List ℕ
+fromHead f rows = headText f ++ fromOwn f rows
+
+-- The parts, one behind the other, are the text.
+parts-text : (f : Fields) (rows : List ℕ) → text (messageWith f rows) ≡ typeText (f .body) ++ fromHead f rows
+unfolding messageWith countOf typeText headText ownText
+parts-text f rows =
+    text-of (openingOf f .type) (openingOf f .numbers) (rowEntries (countOf f) rows) (numbers-many f) (rows-many (countOf f) rows)
+    ∙ rw (lines-split (typeIn (f .body)) (f .term .0) (f .from .0) (f .to .0) (ownIn (f .body))) (simp append-assoc)
+
+-- The count of the span is the count of the fields.
+pub span-count : (f : Fields) {s : Span} → s ≡ spanOf (openingOf f) → s .count ≡ countOf f
+unfolding spanOf countOf
+span-count f e = ap (λ (s : Span). s .count) e
+
+-- ---- the parts written
+
+module _ (f : Fields) (rows l : List ℕ) (puts : Puts f rows l) where
+  -- The text fits.
+  fits : 0 + length (typeText (f .body) ++ fromHead f rows) ≤ length l
+  fits = omega (arith, puts .room, text-most (messageWith f rows) (puts .legal), ap length (parts-text f rows))
+
+  -- There is room for the line of the type,
+  pub room-type : length (typeText (f .body)) ≤ length l
+  room-type = omega (arith, room-first l (typeText (f .body)) (fromHead f rows) 0 fits)
+
+  module _ (p : ℕ) (m : List ℕ) (typed : Wrote l 0 (typeText (f .body)) p m) where
+    after-type : p + length (fromHead f rows) ≤ length m
+    after-type = room-next l m (typeText (f .body)) (fromHead f rows) 0 p fits typed
+
+    -- for term, from and to,
+    pub room-head : p + length (headText f) ≤ length m
+    room-head = room-first m (headText f) (fromOwn f rows) p after-type
+
+    module _ (q : ℕ) (n : List ℕ) (headed : Wrote m p (headText f) q n) where
+      after-head : q + length (fromOwn f rows) ≤ length n
+      after-head = room-next m n (headText f) (fromOwn f rows) p q after-type headed
+
+      -- for the type's own lines,
+      pub room-own : q + length (ownText (f .body)) ≤ length n
+      room-own = room-first n (ownText (f .body)) (entryLines f rows) q after-head
+
+      module _ (o : ℕ) (k : List ℕ) (owned : Wrote n q (ownText (f .body)) o k) (count : ℕ) (e : count ≡ countOf f) where
+        -- and for the entry lines, whose rows are there.
+        pub room-rows : (20 * count ≤ length rows) × (o + length (entriesText (rowEntries count rows)) ≤ length k)
+        room-rows = (omega (arith, puts .held), rw e (room-next n k (ownText (f .body)) (entryLines f rows) q o after-head owned))
+
+        -- All of them are the text.
+        pub all-written : (r : ℕ) (j : List ℕ) → Wrote k o (entriesText (rowEntries count rows)) r j → Wrote l 0 (text (messageWith f rows)) r j
+        all-written r j w = wrote-as (parts-text f rows) (wrote-then typed (wrote-then headed (wrote-then owned (rw e at w))))

@@ -1,0 +1,31 @@
+-- `writer::is_append` meets its contract: the tests are the definition's, with the count for the number of entries. Assumes nothing.
+use borrow.Author.Needs.{needs}
+use Rattle.kinds.specs.Sizes.{limit}
+use Rattle.message.specs.Legal.{legalBody}
+use Rattle.writer.proofs.PartsLaws.{rows-many}
+use Rattle.writer.proofs.is_append.Statement.{statement}
+use Rattle.writer.proofs.is_append.Tie as tie
+
+as-defined : tie.Need-returns
+unfolding legalBody limit
+as-defined c =
+    let start = c .before .before .before .before .before .before .before .before .before .before .before .before in
+    cc (rows-many (start .args .count) (start .args .rows .now))
+
+pub is-append-spec : {M : Type 1} → statement M
+is-append-spec =
+    tie.close
+    (tie.spec
+    (λ c κs. search needs)
+    (λ c κs. search needs)
+    (λ c κs. search needs)
+    (λ c κs. search needs)
+    (λ c κs. search needs)
+    (λ c κs. search needs)
+    (λ c κs. search needs)
+    (λ c. search needs)
+    (λ c κs. search needs)
+    (λ c κs. search needs)
+    (λ c κs. search needs)
+    (λ c κs. search needs)
+    as-defined)

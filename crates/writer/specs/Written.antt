@@ -1,0 +1,64 @@
+-- What writing a message alone answers, in document 01's numbers: "Read or written alone, an illegal message is 4, too short an output 3".
+-- Assumes nothing.
+use Prim.Native.Nat.{ℕ, _*_}
+use mathlib.Core.Bool.{Bool, cond, _&&_}
+use mathlib.Core.List.{List, _++_}
+use mathlib.Core.Path.{_≡_}
+use lib.Dec.{ltb, eqb}
+use lib.ListN.{length, drop}
+use Rattle.kinds.specs.Outcome.{done, short-output, bad-message}
+use Rattle.kinds.specs.Sizes.{between, hubs-most, term-most, text-room}
+use Rattle.message.specs.Legal.{legalMessage}
+use Rattle.message.specs.Rows.{row-size}
+use Rattle.message.specs.Text.{text}
+use Rattle.message.specs.Write.{countOf, messageWith}
+use Rattle.message.specs.declared.Fields.{Fields}
+use Rattle.writer.specs.declared.Write.{Write}
+use Rattle.writer.specs.declared.Write.the-variants.{Message, Short, Illegal}
+
+-- Whether fields are legal of which the tests of `to` and of the type's own fields are given.
+abbrev pub wholly : Fields → Bool → Bool → Bool
+wholly f to own = between 1 term-most (f .term .0) && (between 1 hubs-most (f .from .0) && (to && own))
+
+-- Whether fields and rows are a message that can be written: a row for each entry and no other, and legal.
+unfoldable pub isMessage : Fields → List ℕ → Bool
+isMessage f rows = eqb (length rows) (countOf f * row-size) && legalMessage (messageWith f rows)
+
+-- What a call comes to: an outcome, how many bytes the text has, and what is left in the output.
+pub record Written : Type 0 where
+  pub outcome : ℕ
+  pub bytes : ℕ
+  pub out : List ℕ
+
+-- A refusal leaves every byte.
+abbrev pub unwritten : ℕ → List ℕ → Written
+unwritten outcome out = record { outcome = outcome; bytes = 0; out = out }
+
+-- The text stands at the start of the output; the other bytes stay.
+abbrev pub writtenText : List ℕ → List ℕ → Written
+writtenText s out = record { outcome = done; bytes = length s; out = s ++ drop (length s) out }
+
+-- Too short an output is told first, then what is no message.
+unfoldable pub written : Fields → List ℕ → List ℕ → Written
+written f rows out =
+    cond (ltb (length out) text-room) (unwritten short-output out)
+    (cond (isMessage f rows) (writtenText (text (messageWith f rows)) out) (unwritten bad-message out))
+
+-- ---- the promise
+
+-- The outcome that 01 gives each case of the answer, and the bytes of the text.
+abbrev pub outcomeOf : Write → ℕ
+outcomeOf (Message n) = done
+outcomeOf Short = short-output
+outcomeOf Illegal = bad-message
+
+abbrev pub bytesOf : Write → ℕ
+bytesOf (Message n) = n
+bytesOf Short = 0
+bytesOf Illegal = 0
+
+-- An answer and what is left in the output are as they have to be.
+pub record Writes (w : Written) (r : Write) (out : List ℕ) : Type 0 where
+  pub outcome-is : outcomeOf r ≡ w .outcome
+  pub bytes-is : bytesOf r ≡ w .bytes
+  pub out-is : out ≡ w .out
