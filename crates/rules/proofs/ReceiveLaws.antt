@@ -126,7 +126,7 @@ module _ (w : Who) (s : State) where
 -- ---- a message of a higher term
 
 -- A follower of a higher term is contradicted by nothing.
-raised-agrees : (s : State) (t : ℕ) (body : Body) → contradicts (raised s t) body ≡ false
+pub raised-agrees : (s : State) (t : ℕ) (body : Body) → contradicts (raised s t) body ≡ false
 unfolding raised contradicts isLeader isCandidate
 raised-agrees s t (vote-request last ballot) = refl
 raised-agrees s t (vote-yes last ballot entries) = refl
@@ -151,7 +151,7 @@ afterRaise-fair w s r (effect next message) h up (does sound new) =
 
 module _ (w : Who) (i : IsWho w) (s : State) (h : legalState w s ≡ true) (m : Message) (legal : IsMessage m) where
   -- Who sent a message that is not misaddressed.
-  sender : isMisaddressed w m ≡ false → IsPeer w (m .from)
+  pub sender : isMisaddressed w m ≡ false → IsPeer w (m .from)
   unfolding isMisaddressed
   sender t =
       let above = ltb (w .size) (m .from) in
@@ -164,7 +164,7 @@ module _ (w : Who) (i : IsWho w) (s : State) (h : legalState w s ≡ true) (m : 
       }
 
   -- A stale message has at most the own term.
-  stale-term : isStale s m ≡ true → m .term ≤ s .kept .term
+  pub stale-term : isStale s m ≡ true → m .term ≤ s .kept .term
   unfolding isStale
   stale-term t =
       let lower = ltb (m .term) (s .kept .term) in
@@ -173,7 +173,7 @@ module _ (w : Who) (i : IsWho w) (s : State) (h : legalState w s ≡ true) (m : 
       (λ e. omega (arith, eqb-true (m .term) (s .kept .term) (and-first own (isRequest (m .body)) e)))
 
   -- One that is not stale, and not of a higher term, has the own term.
-  own-term : isStale s m ≡ false → ltb (s .kept .term) (m .term) ≡ false → m .term ≡ s .kept .term
+  pub own-term : isStale s m ≡ false → ltb (s .kept .term) (m .term) ≡ false → m .term ≡ s .kept .term
   unfolding isStale
   own-term t u =
       let lower = ltb (m .term) (s .kept .term) in

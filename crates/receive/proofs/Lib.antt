@@ -1,0 +1,4 @@
+pub mod FieldsLaws
+pub mod ReplyLaws
+pub mod RuleLaws
+pub mod OutcomeLaws

@@ -1,0 +1,5 @@
+pub mod SpokenLaws
+pub mod AnswerLaws
+pub mod GivesLaws
+pub mod StartLaws
+pub mod SendLaws
