@@ -1,1 +1,3 @@
 pub mod NumbersLaws
+pub mod WriteLaws
+pub mod GroupLaws

@@ -34,7 +34,7 @@ kind-own (append-yes end) = (refl, refl)
 kind-own (append-no n) = (refl, refl)
 
 -- The numbers of a message's fields are the message's.
-numbers-same : (m : Message) → numbersIn (fieldsOf m) ≡ numbersOf m
+pub numbers-same : (m : Message) → numbersIn (fieldsOf m) ≡ numbersOf m
 unfolding fieldsOf numbersOf
 numbers-same m = rw (kind-own (m .body) .0, kind-own (m .body) .1)
 
@@ -88,7 +88,8 @@ module _ (s numbers : List ℕ) where
       rw (le-ltb (length numbers) 8 h, read-is (read s) f n e)
       (record { returned = omega arith; left = put ∙ written ∙ ap (λ (k : ℕ). numbersIn f ++ drop k numbers) eight })
 
-room-small : text-room < 4_294_967_296
+-- How long a text can be fits the upper half.
+pub room-small : text-room < 4_294_967_296
 unfolding text-room
 room-small = omega arith
 

@@ -1,2 +1,3 @@
 pub mod Message
 pub mod Numbers
+pub mod Write

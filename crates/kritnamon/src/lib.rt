@@ -7,14 +7,34 @@ ghost use lib.Seq.{sets};
 ghost use Rattle.command.specs.Answers.{Answers, written, told, commandWith};
 ghost use Rattle.kinds.specs.Sizes.{limit, text-room};
 ghost use Rattle.state.specs.Image.{state-size};
+ghost use Rattle.rules.specs.Step.{stepOf};
+ghost use Rattle.step.specs.Promise.{Answers as Takes, call, whoIn};
+ghost use Rattle.step.specs.Gate.{gate};
 ghost use Rattle.report.specs.Report.{Reports, reportOf, chosenOf};
 ghost use Rattle.kritnamon.specs.Message.{Tells, tells};
 ghost use Rattle.kritnamon.specs.Numbers.{kindIn, ownIn, numbersIn};
+ghost use Rattle.kritnamon.specs.Write.{bodyWith, fieldsWith, areFields, writes, Leaves};
+use kinds::Hub;
+use kinds::Place;
+use kinds::Term;
 use message::Body;
 use message::Fields;
 use message::Read;
+use step::Group;
+use writer::Write;
+
+// The events that have a function of their own; any other that passes the first tests is a message received.
+const START: u32 = 1;
+
+const PROPOSE: u32 = 2;
+
+const SEND: u32 = 3;
+
+const RESTART: u32 = 4;
 
 // Document 01's outcomes.
+const DONE: u64 = 0;
+
 const SHORT_OUTPUT: u64 = 3;
 
 const BAD_MESSAGE: u64 = 4;
@@ -127,6 +147,86 @@ pub extern "C" fn kritnamon_read_message(text: &[u8], numbers: &mut [u32]) -> u6
     (entries as u64) * UPPER
 }
 
+// The body of a type's number, three numbers of its own and the count. What is no type's number is taken for the last.
+fn body_with(kind: u32, a: u32, b: u32, c: u32, count: u32) -> Body
+    ensures { λ r. ⌜ r ≡ bodyWith kind a b c count ⌝ }
+{
+    match kind {
+        1 => Body::VoteRequest {
+            last: Place::of(a),
+            ballot: Term::of(b),
+        },
+        2 => Body::VoteYes {
+            last: Place::of(a),
+            ballot: Term::of(b),
+            count,
+        },
+        3 => Body::VoteNo,
+        4 => Body::Append {
+            prev: Place::of(a),
+            prevterm: Term::of(b),
+            chosen: Place::of(c),
+            count,
+        },
+        5 => Body::AppendYes { end: Place::of(a) },
+        _ => Body::AppendNo {
+            length: Place::of(a),
+        },
+    }
+}
+
+// The fields of eight numbers.
+fn fields_with(numbers: &[u32]) -> Fields
+    requires { ⌜ length (now numbers) ≡ 8 ⌝ }
+    ensures { λ r. ⌜ r ≡ fieldsWith (now (numbers .entry)) ⌝ }
+{
+    let body = body_with(numbers[0], numbers[4], numbers[5], numbers[6], numbers[7]);
+    Fields {
+        term: Term::of(numbers[1]),
+        from: Hub::of(numbers[2]),
+        to: Hub::of(numbers[3]),
+        body,
+    }
+}
+
+// Whether eight numbers are exactly those of the fields that they give.
+fn are_fields(numbers: &[u32], f: Fields) -> bool
+    requires { ⌜ (length (now numbers) ≡ 8) × (f ≡ fieldsWith (now numbers)) ⌝ }
+    ensures { λ r. ⌜ r ≡ areFields (now (numbers .entry)) ⌝ }
+{
+    let body = f.body;
+    let own = own_of(body);
+    let kind = kind_of(body);
+    let last = (own[2] == numbers[6]) & (own[3] == numbers[7]);
+    (kind == numbers[0]) & ((own[0] == numbers[4]) & ((own[1] == numbers[5]) & last))
+}
+
+// Writes a message's text at the start of `out`: from its eight numbers (type, term, from, to, up to three of the type's own, 0 for what the
+// type does not have, and the count of its entries) and from a row of 20 bytes for each entry, its term's 4 and its command's 16. The upper
+// half of what is returned is how many bytes the text has. A refusal (3: too short an output; 4: not the numbers of a type, not a row for
+// each entry, or not a legal message) leaves every byte, and its upper half is 0.
+#[no_mangle]
+pub extern "C" fn kritnamon_write_message(numbers: &[u32], rows: &[u8], out: &mut [u8]) -> u64
+    ensures { λ r. ⌜ Leaves (writes (now (numbers .entry)) (now (rows .entry)) (now (out .entry))) r (now (out .exit)) ⌝ }
+{
+    if out.len() < step::output_bytes() {
+        return SHORT_OUTPUT;
+    }
+    if numbers.len() != MESSAGE_NUMBERS {
+        return BAD_MESSAGE;
+    }
+    let f = fields_with(numbers);
+    if !are_fields(numbers, f) {
+        return BAD_MESSAGE;
+    }
+    let answer = writer::write_message(f, rows, out);
+    match answer {
+        Write::Message { bytes } => (bytes as u64) * UPPER,
+        Write::Short => SHORT_OUTPUT,
+        Write::Illegal => BAD_MESSAGE,
+    }
+}
+
 // How many bytes a state has.
 #[no_mangle]
 pub extern "C" fn kritnamon_state_size() -> usize
@@ -166,4 +266,54 @@ pub extern "C" fn kritnamon_reported(state: &[u8], place: u32, out: &mut [u8]) -
     ensures { λ r. ⌜ Reports (reportOf (now (state .entry)) place (now (out .entry))) r (now (out .exit)) ⌝ }
 {
     report::reported_at(state, place, out)
+}
+
+// ---- the step
+
+// The event, once the tests before every event are passed.
+fn act(g: Group, event: u32, a: u32, b: u32, state: &mut [u8], input: &[u8], out: &mut [u8]) -> u64
+    requires { ⌜ gate (whoIn g) event (now state) (now out) ≡ 0 ⌝ }
+    ensures { λ r. ⌜ Takes (stepOf (call (g .size) (g .own .0) event a b (now (state .entry)) (now (input .entry)) (now (out .entry)))) r (now (state .exit)) (now (out .exit)) ⌝ }
+{
+    if event == START {
+        return say::start_at(g, state, out);
+    }
+    if event == PROPOSE {
+        return step::propose_at(g, state, input) as u64;
+    }
+    if event == SEND {
+        return say::send_at(g, state, a, b, out);
+    }
+    if event == RESTART {
+        step::restart_in(state);
+        return DONE;
+    }
+    receive::receive_at(g, state, input, out)
+}
+
+// One step of hub `own` of n. Events: 1 start; 2 propose the command in `input`; 3 send to peer a from prev b; 4 restart; 5 receive the text in `input`.
+// The lower half of what is returned is the outcome, the upper half how many bytes of message stand at the start of `out`. All but outcome 0 leave the state;
+// output bytes past a message stay.
+#[no_mangle]
+pub extern "C" fn kritnamon_step(
+    n: u32,
+    own: u32,
+    event: u32,
+    a: u32,
+    b: u32,
+    state: &mut [u8],
+    input: &[u8],
+    out: &mut [u8],
+) -> u64
+    ensures { λ r. ⌜ Takes (stepOf (call n own event a b (now (state .entry)) (now (input .entry)) (now (out .entry)))) r (now (state .exit)) (now (out .exit)) ⌝ }
+{
+    let g = Group {
+        size: n,
+        own: Hub::of(own),
+    };
+    let refused = step::refusal_before(g, event, state, out);
+    if refused != 0 {
+        return refused as u64;
+    }
+    act(g, event, a, b, state, input, out)
 }
