@@ -24,11 +24,29 @@ pub fn now() -> u64 {
 
 /// The median time of one call, in nanoseconds, of each of two pieces of work: eleven rounds of each, turn by turn.
 pub fn medians(calls: u32, mut ours: impl FnMut(), mut theirs: impl FnMut()) -> (f64, f64) {
+    medians_of(|| each(calls, &mut ours), || each(calls, &mut theirs))
+}
+
+/// How many states are put back at once: enough that the clock's own time does not count, few enough to stay in the cache.
+const BATCH: u32 = 32;
+
+/// The same for work that changes a state. Each call gets a state of its own; putting the states back is not timed.
+pub fn medians_from(
+    state: &[u8],
+    calls: u32,
+    mut ours: impl FnMut(&mut [u8]),
+    mut theirs: impl FnMut(&mut [u8]),
+) -> (f64, f64) {
+    let batches = calls.div_ceil(BATCH);
+    medians_of(|| each_from(state, batches, &mut ours), || each_from(state, batches, &mut theirs))
+}
+
+fn medians_of(mut ours: impl FnMut() -> f64, mut theirs: impl FnMut() -> f64) -> (f64, f64) {
     const ROUNDS: usize = 11;
     let mut times = [[0.0; ROUNDS]; 2];
     for round in 0..=ROUNDS {
-        let first = each(calls, &mut ours);
-        let second = each(calls, &mut theirs);
+        let first = ours();
+        let second = theirs();
         // Round 0 only warms up.
         if let Some(index) = round.checked_sub(1) {
             times[0][index] = first;
@@ -47,4 +65,16 @@ fn each(calls: u32, work: &mut impl FnMut()) -> f64 {
         work();
     }
     (now() - before) as f64 / f64::from(calls)
+}
+
+fn each_from(state: &[u8], batches: u32, work: &mut impl FnMut(&mut [u8])) -> f64 {
+    let mut states = vec![state.to_vec(); BATCH as usize];
+    let mut spent = 0;
+    for _ in 0..batches {
+        states.iter_mut().for_each(|copy| copy.copy_from_slice(state));
+        let before = now();
+        states.iter_mut().for_each(|copy| work(copy));
+        spent += now() - before;
+    }
+    spent as f64 / f64::from(batches * BATCH)
 }

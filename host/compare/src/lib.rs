@@ -1,9 +1,15 @@
 //! The proved library's functions, as safe Rust. Slices pass as a pointer and a length.
-//! Beside them what every comparison uses: a small random number generator, and lent bytes that are watched.
+//! Beside them what every comparison uses: a small random number generator, lent bytes that are watched, and states and messages to call with.
 
+pub mod aimed;
+pub mod both;
 pub mod cpu;
+pub mod damage;
+pub mod image;
 pub mod messages;
+pub mod reached;
 pub mod rng;
+pub mod states;
 pub mod watched;
 
 mod library {
@@ -35,6 +41,27 @@ mod library {
             out_length: usize,
         ) -> u32;
         pub fn kritnamon_read_message(text: *const u8, length: usize, fields: *mut u32, count: usize) -> u64;
+        pub fn kritnamon_write_message(
+            numbers: *const u32,
+            count: usize,
+            rows: *const u8,
+            rows_length: usize,
+            out: *mut u8,
+            out_length: usize,
+        ) -> u64;
+        pub fn kritnamon_step(
+            n: u32,
+            own: u32,
+            event: u32,
+            a: u32,
+            b: u32,
+            state: *mut u8,
+            state_length: usize,
+            input: *const u8,
+            input_length: usize,
+            out: *mut u8,
+            out_length: usize,
+        ) -> u64;
     }
 }
 
@@ -62,6 +89,51 @@ pub fn read_message(text: &[u8], fields: &mut [u32]) -> (u32, u32) {
     // SAFETY: each pointer and length are those of one slice, the second lent to this call alone.
     halves(unsafe {
         library::kritnamon_read_message(text.as_ptr(), text.len(), fields.as_mut_ptr(), fields.len())
+    })
+}
+
+/// Writes a message alone, from its numbers and the rows of its entries. Answers the outcome and how many bytes were written.
+pub fn write_message(numbers: &[u32], rows: &[u8], out: &mut [u8]) -> (u32, u32) {
+    // SAFETY: each pointer and length are those of one slice, the last lent to this call alone.
+    halves(unsafe {
+        library::kritnamon_write_message(
+            numbers.as_ptr(),
+            numbers.len(),
+            rows.as_ptr(),
+            rows.len(),
+            out.as_mut_ptr(),
+            out.len(),
+        )
+    })
+}
+
+/// Takes one step of hub `own` of `n`. Answers the outcome and how many bytes of message were written.
+#[allow(clippy::too_many_arguments)] // The call's form is given.
+pub fn step(
+    n: u32,
+    own: u32,
+    event: u32,
+    a: u32,
+    b: u32,
+    state: &mut [u8],
+    input: &[u8],
+    out: &mut [u8],
+) -> (u32, u32) {
+    // SAFETY: each pointer and length are those of one slice; state and output are lent to this call alone.
+    halves(unsafe {
+        library::kritnamon_step(
+            n,
+            own,
+            event,
+            a,
+            b,
+            state.as_mut_ptr(),
+            state.len(),
+            input.as_ptr(),
+            input.len(),
+            out.as_mut_ptr(),
+            out.len(),
+        )
     })
 }
 

@@ -52,7 +52,32 @@ pub fn fields_of(message: &Message) -> [u32; FIELDS] {
     [kind, message.term.0, message.from.0, message.to.0, own[0], own[1], own[2], own[3]]
 }
 
+/// Each type's name, and the keys of its own lines with the places of their numbers.
+const TYPES: [(&str, &[(&str, usize)]); 6] = [
+    ("vote-request", &[("last", 4), ("ballot", 5)]),
+    ("vote-yes", &[("last", 4), ("ballot", 5), ("count", 7)]),
+    ("vote-no", &[]),
+    ("append", &[("prev", 4), ("prevterm", 5), ("chosen", 6), ("count", 7)]),
+    ("append-yes", &[("end", 4)]),
+    ("append-no", &[("length", 4)]),
+];
+
 impl Sample {
+    /// The lines of these numbers and rows, whether they make a legal message or not; the type has to be one of the six.
+    pub fn lines(&self) -> Vec<u8> {
+        let [kind, term, from, to, ..] = self.fields;
+        let (name, own) = TYPES[kind as usize - 1];
+        let mut text = format!("type={name}\nterm={term}\nfrom={from}\nto={to}\n");
+        for (key, at) in own {
+            text += &format!("{key}={}\n", self.fields[*at]);
+        }
+        for entry in self.entries() {
+            let digits: String = entry.command.iter().map(|byte| format!("{byte:02x}")).collect();
+            text += &format!("entry={}:{digits}\n", entry.term.0);
+        }
+        text.into_bytes()
+    }
+
     /// The entries of the rows.
     pub fn entries(&self) -> Vec<Entry> {
         let entry = |row: &[u8]| Entry {

@@ -9,6 +9,7 @@ impl Rng {
         Rng(seed.wrapping_mul(0x9e37_79b9_7f4a_7c15) | 1)
     }
 
+    #[allow(clippy::should_implement_trait)] // It never ends, and is no iterator.
     pub fn next(&mut self) -> u64 {
         self.0 ^= self.0 >> 12;
         self.0 ^= self.0 << 25;
@@ -19,6 +20,16 @@ impl Rng {
     /// A number below `end`.
     pub fn below(&mut self, end: u64) -> u64 {
         self.next() % end
+    }
+
+    /// A number up to `most`, itself included.
+    pub fn up_to(&mut self, most: u32) -> u32 {
+        self.below(u64::from(most) + 1) as u32
+    }
+
+    /// True once in so many times.
+    pub fn one_in(&mut self, chances: u64) -> bool {
+        self.below(chances) == 0
     }
 
     /// One of these.

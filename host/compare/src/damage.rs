@@ -1,0 +1,120 @@
+//! States, messages and commands with something wrong in them, more often than not.
+
+use crate::image::number_at;
+use crate::messages::{ROOM, ROW, Sample};
+use crate::rng::Rng;
+use independent::state::{HEAD_SIZE, SIZE};
+
+/// Numbers at and next to every edge that document 01 names.
+pub const EDGES: [u32; 12] = [0, 1, 2, 3, 7, 8, 255, 256, 257, 65_536, u32::MAX - 1, u32::MAX];
+
+/// Where the numbers of a state's head stand: term, ballot, chosen, length, gathered, and the confirmed lengths.
+const NUMBERS: [usize; 12] = [0, 4, 8, 12, 16, 28, 32, 36, 40, 44, 48, 52];
+
+/// Changes to try at a row of this term, each a place in the row and what is put there: terms of 0, next to its own, and the largest;
+/// motors, kinds, durations and gains at and past their ends.
+pub fn row_changes(term: u32) -> [(usize, u32); 16] {
+    [
+        (0, 0),
+        (0, term.wrapping_sub(1)),
+        (0, term.wrapping_add(1)),
+        (0, u32::MAX),
+        (4, 0x0000_0001),
+        (4, 0x0041_0001),
+        (4, 0x0040_0003),
+        (4, 0x0103_0001),
+        (8, 0),
+        (8, 600_001),
+        (8, u32::MAX),
+        (12, 0x3f80_0000),
+        (12, 0x3f80_0001),
+        (12, 0x8000_0000),
+        (16, 1),
+        (16, 0x8000_0000),
+    ]
+}
+
+/// The bytes of a state with one thing changed.
+pub fn state(rng: &mut Rng, bytes: &[u8]) -> Vec<u8> {
+    let mut changed = bytes.to_vec();
+    let used = ((number_at(bytes, 12) + number_at(bytes, 16)) as usize) * ROW;
+    let rest = SIZE - HEAD_SIZE - used;
+    match rng.below(8) {
+        0 => changed[rng.below(HEAD_SIZE as u64) as usize] = rng.next() as u8,
+        1 => put(&mut changed, rng.pick(&NUMBERS), rng.pick(&EDGES)),
+        2 => next_number(rng, &mut changed),
+        3 => changed[20 + rng.below(8) as usize] = rng.pick(&[0, 1, 2, 3, 255]),
+        4 => changed.resize(rng.pick(&[0, 1, HEAD_SIZE, SIZE - ROW, SIZE - 1, SIZE + 1, SIZE + ROW]), 0),
+        5 if rest > 0 => {
+            changed[HEAD_SIZE + used + rng.below(rest as u64) as usize] = 1 << rng.below(8);
+        }
+        _ => row(rng, &mut changed[HEAD_SIZE..HEAD_SIZE + used]),
+    }
+    changed
+}
+
+fn put(bytes: &mut [u8], at: usize, number: u32) {
+    bytes[at..at + 4].copy_from_slice(&number.to_be_bytes());
+}
+
+/// A number of the head, one more or one less.
+fn next_number(rng: &mut Rng, bytes: &mut [u8]) {
+    let at = rng.pick(&NUMBERS);
+    let number = number_at(bytes, at);
+    put(bytes, at, rng.pick(&[number.wrapping_sub(1), number.wrapping_add(1)]));
+}
+
+/// One of these rows changed: its term, its command, or any byte. No rows stay none.
+pub fn row(rng: &mut Rng, rows: &mut [u8]) {
+    if rows.is_empty() {
+        return;
+    }
+    let start = rng.below((rows.len() / ROW) as u64) as usize * ROW;
+    let row = &mut rows[start..start + ROW];
+    let term = number_at(row, 0);
+    match rng.below(4) {
+        0 => put(row, 0, rng.pick(&[0, 1, term.wrapping_sub(1), term.wrapping_add(1), u32::MAX])),
+        1 => row[rng.below(ROW as u64) as usize] = rng.next() as u8,
+        _ => command(rng, &mut row[4..]),
+    }
+}
+
+/// A command's bytes with one of its numbers at, or past, an edge.
+pub fn command(rng: &mut Rng, bytes: &mut [u8]) {
+    match rng.below(5) {
+        0 => bytes[..2].copy_from_slice(&rng.pick(&[0u16, 1, 64, 65, 0x0101]).to_be_bytes()),
+        1 => bytes[2..4].copy_from_slice(&rng.pick(&[0u16, 1, 2, 3, 0x0100]).to_be_bytes()),
+        2 => put(bytes, 4, rng.pick(&[0, 1, 600_000, 600_001, 0x8000_0000, u32::MAX])),
+        3 => put(bytes, 8, rng.pick(&[0, 1, 0x3f80_0000, 0x3f80_0001, 0x7fc0_0000, 0x8000_0000])),
+        _ => put(bytes, 12, rng.pick(&[0, 1, 0x3f80_0000, 0x3f80_0001, 0x7fc0_0000, 0x8000_0000])),
+    }
+}
+
+/// A message with one of its numbers, or its rows, changed. The type stays one of the six.
+pub fn sample(rng: &mut Rng, sample: &mut Sample) {
+    match rng.below(6) {
+        0 => row(rng, &mut sample.rows),
+        1 => sample.rows.truncate(sample.rows.len().saturating_sub(ROW)),
+        2 => sample.fields[0] = 1 + rng.up_to(5),
+        3 => sample.fields[2 + rng.below(2) as usize] = rng.up_to(9),
+        4 => sample.fields[1 + rng.below(7) as usize] = rng.pick(&EDGES),
+        _ => {
+            let field = &mut sample.fields[1 + rng.below(7) as usize];
+            *field = rng.pick(&[field.wrapping_sub(1), field.wrapping_add(1)]);
+        }
+    }
+}
+
+/// A text with one byte changed, put in or taken out, or cut, or made longer.
+pub fn text(rng: &mut Rng, text: &mut Vec<u8>) {
+    let at = rng.below(text.len() as u64) as usize;
+    let byte = rng.pick(b"0159af:=-\n\r \0\xff");
+    match rng.below(6) {
+        0 => text[at] = byte,
+        1 => text.insert(at, byte),
+        2 => drop(text.remove(at)),
+        3 => text.truncate(at),
+        4 => text.push(byte),
+        _ => text.resize(rng.pick(&[0, ROOM - 1, ROOM, ROOM + 1]), b'\n'),
+    }
+}

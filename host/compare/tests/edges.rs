@@ -1,0 +1,266 @@
+//! The step at its edges: every byte of a state changed, and every size, number and input that is at or past a limit. Both programs give
+//! the same answers and leave the same bytes. `KRITNAMON_SEED` takes other states; the seed is printed.
+
+use compare::both::{Call, PROPOSE, RECEIVE, RESTART, SEND, START, Tally};
+use compare::damage::row_changes;
+use compare::image::{CANDIDATE, Image, LEADER, number_at};
+use compare::messages::{ROOM, ROW, shapes};
+use compare::rng::{Rng, seed};
+use compare::{aimed, states};
+use independent::state::{HEAD_SIZE, SIZE};
+use independent::{Group, LIMIT};
+
+/// A hub in a state, with a message and a command for it.
+struct Scene {
+    group: Group,
+    image: Image,
+    text: Vec<u8>,
+    command: [u8; 16],
+}
+
+impl Scene {
+    fn new(rng: &mut Rng, group: Group, image: Image) -> Scene {
+        let text = aimed::message(rng, group, &image).lines();
+        Scene { group, image, text, command: states::command(rng) }
+    }
+
+    /// An event at these bytes instead of the state's own.
+    fn call<'a>(&'a self, event: u32, state: &'a [u8]) -> Call<'a> {
+        let (n, own) = (self.group.size() as u32, self.group.own().0);
+        let input = if event == PROPOSE { &self.command[..] } else { &self.text };
+        Call { n, own, event, a: own % n + 1, b: 0, state, input, room: ROOM }
+    }
+
+    /// A receive and a restart at these bytes instead of the state's own.
+    fn at_bytes(&self, tally: &mut Tally, bytes: &[u8]) {
+        tally.compare(&self.call(RECEIVE, bytes));
+        tally.compare(&self.call(RESTART, bytes));
+    }
+}
+
+/// A state that is made again until it has a log of some entries, and as a candidate gathered ones.
+fn with_log(rng: &mut Rng, make: impl Fn(&mut Rng) -> Image) -> Image {
+    loop {
+        let image = make(rng);
+        let gathered = image.role != CANDIDATE || !image.gathered.is_empty();
+        if (2..=40).contains(&image.length()) && gathered {
+            return image;
+        }
+    }
+}
+
+/// A follower, a candidate and a leader of each size of a group.
+fn scenes(rng: &mut Rng) -> Vec<Scene> {
+    let mut all = Vec::new();
+    for n in [3, 5, 7] {
+        let group = Group::new(n, 1 + rng.up_to(n - 1)).expect("a group");
+        let term = 3 + rng.up_to(6);
+        let images = [
+            with_log(rng, |rng| states::follower(rng, term)),
+            with_log(rng, |rng| states::candidate(rng, group, term)),
+            with_log(rng, |rng| states::leader(rng, group, term)),
+        ];
+        all.extend(images.map(|image| Scene::new(rng, group, image)));
+    }
+    all
+}
+
+#[test]
+fn every_changed_byte_of_a_head_is_answered_alike() {
+    let mut tally = Tally::default();
+    for scene in scenes(&mut Rng::seeded(seed())) {
+        let mut bytes = scene.image.bytes();
+        for at in 0..HEAD_SIZE {
+            let old = bytes[at];
+            for other in [0, 1, 2, 3, 0x7f, 0x80, 0xff, old.wrapping_add(1), old.wrapping_sub(1), old ^ 0x10]
+            {
+                bytes[at] = other;
+                scene.at_bytes(&mut tally, &bytes);
+            }
+            bytes[at] = old;
+        }
+    }
+    println!("{tally:?}");
+    assert!(tally.calls >= 10_000 && tally.outcomes[2] >= 5_000);
+}
+
+fn change_row(scene: &Scene, tally: &mut Tally, index: u32) {
+    let bytes = scene.image.bytes();
+    let start = HEAD_SIZE + index as usize * ROW;
+    let term = number_at(&bytes, start);
+    for (at, number) in row_changes(term) {
+        let mut changed = bytes.clone();
+        changed[start + at..start + at + 4].copy_from_slice(&number.to_be_bytes());
+        scene.at_bytes(tally, &changed);
+    }
+}
+
+/// A leader of a full log, and a candidate whose log and gathered entries are 256 together.
+fn full_scenes(rng: &mut Rng) -> [Scene; 2] {
+    let group = Group::new(5, 2).expect("a group");
+    let log = states::rising(rng, LIMIT, 1, 6);
+    let confirmed = [4, LIMIT, 0, 0, 9, 0, 0];
+    let leads = Image { term: 6, ballot: 6, chosen: 5, role: LEADER, confirmed, log, ..Image::default() };
+    let log = states::rising(rng, LIMIT - 90, 1, 6);
+    let gathered = states::rising(rng, 90, 1, 7);
+    let voters = [0, 1, 0, 1, 0, 0, 0];
+    let asks = Image { term: 8, ballot: 6, role: CANDIDATE, voters, log, gathered, ..Image::default() };
+    [leads, asks].map(|image| Scene::new(rng, group, image))
+}
+
+#[test]
+fn every_changed_row_is_answered_alike() {
+    let mut rng = Rng::seeded(seed());
+    let mut tally = Tally::default();
+    for scene in full_scenes(&mut rng) {
+        (0..LIMIT).for_each(|index| change_row(&scene, &mut tally, index));
+    }
+    println!("{tally:?}");
+    assert!(tally.outcomes[2] >= 5_000 && tally.outcomes[0] >= 500);
+}
+
+#[test]
+fn every_byte_behind_the_rows_is_looked_at_alike() {
+    let mut tally = Tally::default();
+    let mut unused = 0;
+    for scene in scenes(&mut Rng::seeded(seed())).iter().take(3) {
+        let mut bytes = scene.image.bytes();
+        let used = HEAD_SIZE + (scene.image.log.len() + scene.image.gathered.len()) * ROW;
+        unused += (SIZE - used) as u64;
+        for at in used..SIZE {
+            bytes[at] = 1;
+            scene.at_bytes(&mut tally, &bytes);
+            bytes[at] = 0;
+        }
+    }
+    println!("{tally:?}");
+    // A restart does not look at them.
+    assert!(unused > 0 && tally.outcomes[2] == unused && tally.done_by_event[RESTART as usize] == unused);
+}
+
+#[test]
+fn other_lengths_of_a_state_are_refused_alike() {
+    let mut tally = Tally::default();
+    for scene in scenes(&mut Rng::seeded(seed())) {
+        let bytes = [scene.image.bytes(), scene.image.bytes()].concat();
+        for length in
+            [0, 1, HEAD_SIZE - 1, HEAD_SIZE, HEAD_SIZE + ROW, SIZE - ROW, SIZE - 1, SIZE + 1, 2 * SIZE]
+        {
+            (START..=RECEIVE).for_each(|event| drop(tally.compare(&scene.call(event, &bytes[..length]))));
+        }
+    }
+    assert_eq!(tally.outcomes[2], tally.calls);
+}
+
+/// Small numbers, one next to a wrap-around, and some that are small once cut to fewer bits.
+fn numbers() -> impl Iterator<Item = u32> {
+    (0..=9).chain([255, 259, 65_539, 0x8000_0003, u32::MAX])
+}
+
+#[test]
+fn every_group_and_event_is_answered_alike() {
+    let mut tally = Tally::default();
+    let scenes = scenes(&mut Rng::seeded(seed()));
+    for scene in &scenes {
+        // A fresh hub's bytes are legal in every group, so that all that is refused is refused for its numbers.
+        for state in [scene.image.bytes(), vec![0; SIZE]] {
+            for (n, own) in numbers().flat_map(|n| numbers().map(move |own| (n, own))) {
+                for event in numbers() {
+                    tally.compare(&Call { n, own, event, ..scene.call(event, &state) });
+                }
+            }
+        }
+    }
+    println!("{tally:?}");
+    assert!(tally.outcomes[1] >= 10_000 && tally.outcomes[0] >= 300);
+}
+
+#[test]
+fn every_room_is_answered_alike() {
+    let mut tally = Tally::default();
+    for scene in scenes(&mut Rng::seeded(seed())) {
+        let state = scene.image.bytes();
+        let mut damaged = state.clone();
+        damaged[HEAD_SIZE..HEAD_SIZE + 4].fill(0);
+        for room in [0, 1, 15, 16, ROOM - 1, ROOM, ROOM + 1, 2 * ROOM, 65_536 + ROOM - 1] {
+            for event in START..=RECEIVE {
+                tally.compare(&Call { room, ..scene.call(event, &state) });
+                tally.compare(&Call { room, ..scene.call(event, &damaged) });
+                tally.compare(&Call { room, input: b"", ..scene.call(event, &state) });
+            }
+        }
+    }
+    println!("{tally:?}");
+    assert!([0, 2, 3, 4].iter().all(|&outcome| tally.outcomes[outcome] >= 30));
+}
+
+#[test]
+fn every_send_is_answered_alike() {
+    let mut tally = Tally::default();
+    let mut rng = Rng::seeded(seed());
+    for scene in scenes(&mut rng).iter().chain(&full_scenes(&mut rng)) {
+        let state = scene.image.bytes();
+        let length = scene.image.length();
+        for peer in numbers() {
+            for prev in (0..=length + 2).chain([LIMIT, LIMIT + 1, 65_536, u32::MAX]) {
+                tally.compare(&Call { a: peer, b: prev, ..scene.call(SEND, &state) });
+            }
+        }
+    }
+    println!("{tally:?}");
+    assert!(tally.outcomes[0] >= 1_000 && tally.outcomes[12] >= 1_000 && tally.outcomes[8] >= 1_000);
+}
+
+#[test]
+fn every_changed_proposal_is_answered_alike() {
+    let mut tally = Tally::default();
+    for scene in scenes(&mut Rng::seeded(seed())) {
+        let state = scene.image.bytes();
+        let twice = [scene.command, scene.command].concat();
+        for length in 0..=twice.len() {
+            tally.compare(&Call { input: &twice[..length], ..scene.call(PROPOSE, &state) });
+        }
+        for (at, other) in (0..16).flat_map(|at| (0..=255).map(move |other| (at, other))) {
+            let mut command = scene.command;
+            command[at] = other;
+            tally.compare(&Call { input: &command, ..scene.call(PROPOSE, &state) });
+        }
+    }
+    println!("{tally:?}");
+    assert!(tally.outcomes[0] >= 200 && tally.outcomes[10] >= 2_000);
+}
+
+/// Every legal shape of a message, wherever it was meant for, and some texts that are none.
+#[test]
+fn every_shape_is_received_alike() {
+    let mut tally = Tally::default();
+    let mut texts: Vec<_> = shapes().iter().map(|sample| sample.text()).collect();
+    texts.extend([vec![], vec![b'\n'; ROOM], vec![b'\n'; ROOM + 1], vec![0xff; 3 * ROOM]]);
+    for scene in scenes(&mut Rng::seeded(seed())) {
+        let state = scene.image.bytes();
+        for text in &texts {
+            for own in 1..=scene.group.size() as u32 {
+                tally.compare(&Call { own, input: text, ..scene.call(RECEIVE, &state) });
+            }
+        }
+    }
+    println!("{tally:?}");
+    assert!(tally.outcomes[0] >= 200 && tally.outcomes[5] >= 500);
+}
+
+#[test]
+fn every_cut_text_is_received_alike() {
+    let mut tally = Tally::default();
+    let mut rng = Rng::seeded(seed());
+    for scene in scenes(&mut rng) {
+        let state = scene.image.bytes();
+        for _ in 0..12 {
+            let text = aimed::message(&mut rng, scene.group, &scene.image).lines();
+            for length in (0..=text.len()).filter(|length| *length < 300 || text.len() - length < 60) {
+                tally.compare(&Call { input: &text[..length], ..scene.call(RECEIVE, &state) });
+            }
+        }
+    }
+    println!("{tally:?}");
+    assert!(tally.outcomes[4] >= 3_000);
+}

@@ -1,0 +1,199 @@
+//! Messages, written alone: the proved library and the independent program give the same answers and leave the same bytes, and what is
+//! written is read back. `KRITNAMON_ROUNDS=50` makes a longer run of it, `KRITNAMON_SEED` another one; the seed is printed.
+
+use compare::damage::{self, EDGES, row_changes};
+use compare::image::number_at;
+use compare::messages::{FIELDS, ROOM, ROW, Sample, message_of, random, rows, shapes};
+use compare::rng::{Rng, rounds, seed};
+use compare::watched::Watched;
+use compare::{read_message, write_message};
+use independent::message;
+
+/// What the independent program answers to these numbers and rows, and writes: its writer takes a message, so what makes none is refused here.
+fn told(numbers: &[u32], rows: &[u8], out: &mut [u8]) -> (u32, u32) {
+    if out.len() < ROOM {
+        return (3, 0);
+    }
+    let Ok(fields) = <[u32; FIELDS]>::try_from(numbers) else { return (4, 0) };
+    let Some(message) = message_of(&fields) else { return (4, 0) };
+    if rows.len() as u64 != u64::from(fields[7]) * ROW as u64 {
+        return (4, 0);
+    }
+    let sample = Sample { fields, rows: rows.to_vec() };
+    let answer = message::write(&message, sample.entries().into_iter(), out);
+    (answer.outcome.number(), answer.written as u32)
+}
+
+/// Writes with both into so much room, compares, and gives the outcome. What was written is read back.
+fn compare_in(numbers: &[u32], rows: &[u8], room: usize) -> u32 {
+    let before: Vec<u8> = (0..room).map(|index| index as u8 ^ 0x5a).collect();
+    let mut theirs = before.clone();
+    let expected = told(numbers, rows, &mut theirs);
+    let mut ours = Watched::new(&before);
+    let answer = write_message(numbers, rows, ours.lend());
+    assert_eq!(answer, expected, "{numbers:?}, {} bytes of rows, {room} of output", rows.len());
+    assert!(ours.bytes() == theirs, "other bytes: {numbers:?}");
+    if answer.0 == 0 {
+        let mut read = [0; FIELDS];
+        assert_eq!(read_message(&theirs[..answer.1 as usize], &mut read).0, 0, "{numbers:?}");
+        assert_eq!(read, numbers);
+    }
+    answer.0
+}
+
+fn compare(sample: &Sample) -> u32 {
+    compare_in(&sample.fields, &sample.rows, ROOM)
+}
+
+#[test]
+fn every_shape_is_written_alike() {
+    for sample in shapes() {
+        assert_eq!(compare(&sample), 0, "{:?}", sample.fields);
+    }
+}
+
+/// What is refused with 4, for each of its reasons: a term of 0, no such type, a number too few, a row too many.
+fn illegal(sample: &Sample) -> [(Vec<u32>, Vec<u8>); 4] {
+    let Sample { fields, rows: entries } = sample;
+    let with = |at: usize, number: u32| {
+        let mut changed = fields.to_vec();
+        changed[at] = number;
+        changed
+    };
+    let more = [&entries[..], &rows(1, 5, 5)].concat();
+    [
+        (with(1, 0), entries.clone()),
+        (with(0, 7), entries.clone()),
+        (fields[..FIELDS - 1].to_vec(), entries.clone()),
+        (fields.to_vec(), more),
+    ]
+}
+
+#[test]
+fn every_room_is_answered_alike() {
+    for sample in shapes() {
+        for (room, refused) in [(0, 3), (1, 3), (ROOM - 1, 3), (ROOM, 4), (ROOM + 1, 4), (4 * ROOM, 4)] {
+            let legal = if refused == 3 { 3 } else { 0 };
+            assert_eq!(compare_in(&sample.fields, &sample.rows, room), legal);
+            for (numbers, entries) in illegal(&sample) {
+                assert_eq!(compare_in(&numbers, &entries, room), refused, "{numbers:?}");
+            }
+        }
+    }
+}
+
+/// Each number of each shape, numbers that its type does not have among them, at and next to every edge.
+#[test]
+fn every_changed_number_is_written_alike() {
+    let mut counts = [0; 5];
+    for sample in shapes() {
+        for at in 0..FIELDS {
+            let old = sample.fields[at];
+            for other in
+                EDGES.into_iter().chain([old.wrapping_sub(1), old.wrapping_add(1), old ^ 0x8000_0000])
+            {
+                let mut changed = sample.clone();
+                changed.fields[at] = other;
+                counts[compare(&changed) as usize] += 1;
+            }
+        }
+    }
+    println!("{counts:?}");
+    assert!(counts[0] >= 1_000 && counts[4] >= 1_000);
+}
+
+#[test]
+fn a_number_that_the_type_does_not_have_is_refused() {
+    let absent: [&[usize]; 6] = [&[6, 7], &[6], &[4, 5, 6, 7], &[], &[5, 6, 7], &[5, 6, 7]];
+    for sample in shapes() {
+        for &at in absent[sample.fields[0] as usize - 1] {
+            let mut changed = sample.clone();
+            changed.fields[at] = 1;
+            assert_eq!(compare(&changed), 4, "{:?}", changed.fields);
+            // Not even with the row that the number would count.
+            assert_eq!(compare_in(&changed.fields, &rows(1, 1, 1), ROOM), 4, "{:?}", changed.fields);
+        }
+    }
+}
+
+#[test]
+fn other_counts_of_numbers_are_refused() {
+    for sample in shapes() {
+        let longer = [&sample.fields[..], &[0, 0]].concat();
+        for count in [0, 1, 7, 9, 10] {
+            assert_eq!(compare_in(&longer[..count], &sample.rows, ROOM), 4);
+        }
+    }
+}
+
+#[test]
+fn other_lengths_of_rows_are_refused() {
+    for sample in shapes() {
+        let length = sample.rows.len();
+        let longer = [&sample.rows[..], &rows(2, 5, 5)].concat();
+        for other in [
+            0,
+            1,
+            length.saturating_sub(ROW),
+            length.saturating_sub(1),
+            length + 1,
+            length + ROW,
+            length + 2 * ROW,
+        ] {
+            let expected = if other == length { 0 } else { 4 };
+            assert_eq!(compare_in(&sample.fields, &longer[..other], ROOM), expected, "{:?}", sample.fields);
+        }
+    }
+}
+
+/// Counts whose rows would be as many as there are, were the product cut to 32 bits.
+#[test]
+fn counts_that_wrap_around_are_refused() {
+    for sample in shapes().into_iter().filter(|sample| [2, 4].contains(&sample.fields[0])) {
+        for wrap in [1 << 30, 1 << 31, 3 << 30] {
+            let mut changed = sample.clone();
+            changed.fields[7] += wrap;
+            assert_eq!(compare(&changed), 4);
+        }
+    }
+}
+
+fn change_row(sample: &Sample, start: usize, counts: &mut [u32; 5]) {
+    let term = number_at(&sample.rows, start);
+    for (at, number) in row_changes(term) {
+        let mut changed = sample.clone();
+        changed.rows[start + at..start + at + 4].copy_from_slice(&number.to_be_bytes());
+        counts[compare(&changed) as usize] += 1;
+    }
+}
+
+#[test]
+fn every_changed_row_is_written_alike() {
+    let mut counts = [0; 5];
+    for sample in shapes() {
+        // Of a long list the first and last rows, and some between.
+        let last = sample.rows.len().saturating_sub(ROW);
+        let starts = (0..sample.rows.len()).step_by(ROW);
+        for start in starts.filter(|&start| start < 2 * ROW || start + ROW > last || start % 41 == 0) {
+            change_row(&sample, start, &mut counts);
+        }
+    }
+    println!("{counts:?}");
+    assert!(counts[0] >= 500 && counts[4] >= 2_000);
+}
+
+#[test]
+fn random_messages_are_written_alike() {
+    let mut rng = Rng::seeded(seed());
+    let mut counts = [0; 5];
+    for _ in 0..20_000 * rounds() {
+        let mut sample = random(&mut rng);
+        assert_eq!(compare(&sample), 0);
+        for _ in 0..1 + rng.below(2) {
+            damage::sample(&mut rng, &mut sample);
+            counts[compare(&sample) as usize] += 1;
+        }
+    }
+    println!("{counts:?}");
+    assert!(counts[0] >= 1_000 && counts[4] >= 1_000);
+}
