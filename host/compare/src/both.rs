@@ -1,15 +1,10 @@
 //! One call of the step made to both programs, every lent byte compared; and a count of what came of the calls.
 
+use crate::call::RECEIVE;
 use crate::messages::fields_of;
 use crate::watched::Watched;
 use independent::state::HEAD_SIZE;
 use independent::{message, step};
-
-pub const START: u32 = 1;
-pub const PROPOSE: u32 = 2;
-pub const SEND: u32 = 3;
-pub const RESTART: u32 = 4;
-pub const RECEIVE: u32 = 5;
 
 /// A call of the step, with all that it lends. `room` is the size of the output.
 #[derive(Clone, Copy)]

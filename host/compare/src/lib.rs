@@ -3,13 +3,22 @@
 
 pub mod aimed;
 pub mod both;
+pub mod broken;
+pub mod call;
+pub mod checker;
 pub mod cpu;
 pub mod damage;
+pub mod home;
 pub mod image;
 pub mod messages;
+pub mod mistakes;
+pub mod network;
+pub mod paxos;
 pub mod reached;
 pub mod rng;
+pub mod scenario;
 pub mod states;
+pub mod view;
 pub mod watched;
 
 mod library {

@@ -1,6 +1,7 @@
 //! States that hubs come to on their own: a home in which messages are lost, repeated and reordered, and hubs start and restart at any time.
 
-use crate::both::{Call, PROPOSE, RECEIVE, RESTART, SEND, START, Tally};
+use crate::both::{Call, Tally};
+use crate::call::{PROPOSE, RECEIVE, RESTART, SEND, START};
 use crate::image::{Image, LEADER};
 use crate::messages::ROOM;
 use crate::rng::Rng;

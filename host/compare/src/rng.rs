@@ -6,6 +6,11 @@ impl Rng {
     /// A generator of this seed, which is printed: a failing run names it.
     pub fn seeded(seed: u64) -> Rng {
         println!("seed {seed}");
+        Rng::quiet(seed)
+    }
+
+    /// The same for one of many runs, whose seeds are told by whoever counts them.
+    pub fn quiet(seed: u64) -> Rng {
         Rng(seed.wrapping_mul(0x9e37_79b9_7f4a_7c15) | 1)
     }
 
@@ -30,6 +35,11 @@ impl Rng {
     /// True once in so many times.
     pub fn one_in(&mut self, chances: u64) -> bool {
         self.below(chances) == 0
+    }
+
+    /// Whether something happens that does so this often in a hundred times.
+    pub fn percent(&mut self, often: u64) -> bool {
+        self.below(100) < often
     }
 
     /// One of these.

@@ -1,7 +1,8 @@
 //! The step at its edges: every byte of a state changed, and every size, number and input that is at or past a limit. Both programs give
 //! the same answers and leave the same bytes. `KRITNAMON_SEED` takes other states; the seed is printed.
 
-use compare::both::{Call, PROPOSE, RECEIVE, RESTART, SEND, START, Tally};
+use compare::both::{Call, Tally};
+use compare::call::{PROPOSE, RECEIVE, RESTART, SEND, START};
 use compare::damage::row_changes;
 use compare::image::{CANDIDATE, Image, LEADER, number_at};
 use compare::messages::{ROOM, ROW, shapes};

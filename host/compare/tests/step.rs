@@ -1,7 +1,8 @@
 //! The step: the proved library and the independent program give the same answers and leave the same bytes, whatever is handed in.
 //! `KRITNAMON_ROUNDS=50` makes a longer run of it, `KRITNAMON_SEED` another one; the seed is printed.
 
-use compare::both::{Call, PROPOSE, RECEIVE, RESTART, SEND, START, Tally};
+use compare::both::{Call, Tally};
+use compare::call::{PROPOSE, RECEIVE, RESTART, SEND, START};
 use compare::damage::{self, EDGES};
 use compare::image::{Image, LEADER};
 use compare::messages::{ROOM, random};

@@ -1,43 +1,16 @@
 //! A whole night: an election, and commands one after the other, until every hub knows that all are chosen. Every message goes through its text.
 
 use crate::table;
-use compare::both::{PROPOSE, RECEIVE, SEND, START};
+use compare::call::{Call, PROPOSE, RECEIVE, SEND, START, Step, exported, independent};
 use compare::cpu::medians;
 use compare::image::number_at;
 use compare::messages::ROOM;
-use independent::{state, step};
+use independent::{Hub, state};
 
 const COMMANDS: u32 = 200;
 
 /// Hub 1 leads.
 const LEADER: u32 = 1;
-
-/// A step of either program: the outcome, and the bytes of message written.
-type Step = fn(u32, u32, [u32; 3], &mut [u8], &[u8], &mut [u8]) -> (u32, usize);
-
-fn proved(
-    n: u32,
-    own: u32,
-    [event, a, b]: [u32; 3],
-    state: &mut [u8],
-    input: &[u8],
-    out: &mut [u8],
-) -> (u32, usize) {
-    let (outcome, written) = compare::step(n, own, event, a, b, state, input, out);
-    (outcome, written as usize)
-}
-
-fn plain(
-    n: u32,
-    own: u32,
-    [event, a, b]: [u32; 3],
-    state: &mut [u8],
-    input: &[u8],
-    out: &mut [u8],
-) -> (u32, usize) {
-    let answer = step::step(n, own, event, a, b, state, input, out);
-    (answer.outcome.number(), answer.written)
-}
 
 struct Night {
     step: Step,
@@ -58,25 +31,26 @@ impl Night {
     }
 
     /// An event at the leader, its text to be found in `asked`.
-    fn lead(&mut self, event: [u32; 3], input: &[u8]) -> usize {
+    fn lead(&mut self, [event, a, b]: [u32; 3], input: &[u8]) -> usize {
         self.steps += 1;
         let state = &mut self.states[LEADER as usize - 1];
-        let (outcome, written) = (self.step)(self.n, LEADER, event, state, input, &mut self.asked);
-        assert_eq!(outcome, 0, "event {event:?} of the leader");
-        written
+        let call = &mut Call { n: self.n, own: Hub(LEADER), event, a, b, state, input, out: &mut self.asked };
+        let (outcome, written) = (self.step)(call);
+        assert_eq!(outcome, 0, "event {event} of the leader");
+        written as usize
     }
 
     /// A hub hears the leader's text, and the leader its answer: a vote that comes after the majority changes nothing.
     fn exchange(&mut self, peer: u32, length: usize) {
         self.steps += 2;
-        let receive = [RECEIVE, 0, 0];
-        let state = &mut self.states[peer as usize - 1];
-        let (outcome, written) =
-            (self.step)(self.n, peer, receive, state, &self.asked[..length], &mut self.answered);
+        let Night { step, n, states, asked, answered, closed, .. } = self;
+        let mut hears = |own: u32, input: &[u8], out: &mut [u8]| {
+            let state = &mut states[own as usize - 1];
+            step(&mut Call { n: *n, own: Hub(own), event: RECEIVE, a: 0, b: 0, state, input, out })
+        };
+        let (outcome, written) = hears(peer, &asked[..length], answered);
         assert_eq!(outcome, 0, "hub {peer} hears the leader");
-        let state = &mut self.states[LEADER as usize - 1];
-        let answer = &self.answered[..written];
-        let (outcome, _) = (self.step)(self.n, LEADER, receive, state, answer, &mut self.closed);
+        let (outcome, _) = hears(LEADER, &answered[..written as usize], closed);
         assert!(outcome == 0 || outcome == 13, "the leader hears hub {peer}");
     }
 
@@ -115,10 +89,9 @@ fn command(place: u32) -> [u8; 16] {
 pub fn print() {
     table::head("A night", &["", "proved", "plain Rust", "ratio"]);
     for n in [3, 5, 7] {
-        let steps = Night::new(proved, n).run();
+        let steps = Night::new(exported, n).run();
         let night = |step: Step| assert_eq!(Night::new(step, n).run(), steps);
-        let (ours, theirs) = medians(2, || night(proved), || night(plain));
-        let [ours, theirs] = [ours, theirs].map(|time| time / f64::from(steps));
-        table::times(&format!("{n} hubs, {} steps", table::number(steps.into())), (ours, theirs));
+        let times = medians(2, || night(exported), || night(independent));
+        table::times(&format!("{n} hubs, {} steps", table::number(steps.into())), times);
     }
 }

@@ -1,7 +1,8 @@
 //! One step of each kind, at logs of several lengths. The state is put back before each call, outside of what is timed.
 
 use crate::table;
-use compare::both::{Call, PROPOSE, RECEIVE, RESTART, SEND, START};
+use compare::both::Call;
+use compare::call::{PROPOSE, RECEIVE, RESTART, SEND, START};
 use compare::cpu::medians_from;
 use compare::image::{CANDIDATE, Image, LEADER, rows_of_bytes};
 use compare::messages::{ROOM, Sample, rows};

@@ -1,0 +1,144 @@
+//! Broken hubs: the independent program with one rule of document 01 broken. The program itself stays as it is; what a variant changes
+//! lies around its step: the state or the message on the way in, the state or the text on the way out. Each rule is broken as
+//! a program that never knew of it would break it, so states stay legal and the hub goes on.
+
+use crate::call::{Call, RECEIVE, RESTART, Step, independent};
+use crate::view::{
+    BALLOT_AT, CHOSEN_AT, Kind, LENGTH_AT, LOST, Message, ROW_SIZE, Role, State, number_at, put_number, role,
+    row_at,
+};
+use independent::{Hub, Place, Term};
+
+/// Each variant by its name.
+pub const VARIANTS: [(&str, Step); 7] = [
+    ("an append that cuts a longer log", cuts_longer_log),
+    ("a repeated vote-yes counted twice", counts_vote_twice),
+    ("votes given to a lower ballot", votes_for_lower_ballot),
+    ("the lesser ballot kept when gathering", keeps_lesser_ballot),
+    ("chosen moved with one vote less than a majority", chooses_with_one_less),
+    ("an acknowledged end beyond what was stored", acknowledges_too_much),
+    ("a restart that forgets the ballot", forgets_ballot),
+];
+
+/// The hub's state and the message, if the hub receives one of this type that is not below its term.
+pub(crate) fn heard(call: &Call, kind: Kind) -> Option<(State, Message)> {
+    let state = State::read(call.state)?;
+    let message = Message::read(call.input).filter(|_| call.event == RECEIVE)?;
+    (message.kind == kind && message.term() >= state.term).then_some((state, message))
+}
+
+/// As Raft does: whatever stands behind the append's last entry is removed, once the entry at prev agrees.
+pub(crate) fn cuts_longer_log(call: &mut Call) -> (u32, u32) {
+    if let Some((state, message)) = heard(call, Kind::Append) {
+        let (prev, prevterm) = (message.number("prev") as usize, Term(message.number("prevterm")));
+        let joins = prev == 0 || state.log.get(prev - 1).is_some_and(|entry| entry.0 == prevterm);
+        let end = prev + message.entries.len();
+        let leads = state.role == Role::Leader && message.term() == state.term;
+        if joins && end < state.log.len() && !leads {
+            cut(call.state, &state, end as u32);
+        }
+    }
+    independent(call)
+}
+
+/// Nothing is left of what a restart would lose either: who takes an append is a follower.
+fn cut(bytes: &mut [u8], state: &State, end: u32) {
+    let rows = (state.log.len() + state.gathered.len()) as u32;
+    bytes[row_at(Place(end + 1))..row_at(Place(rows + 1))].fill(0);
+    bytes[LOST].fill(0);
+    put_number(bytes, LENGTH_AT, end);
+    put_number(bytes, CHOSEN_AT, state.chosen.0.min(end));
+}
+
+/// Votes are counted and not their voters: a voter heard before counts as one that is still missing.
+pub(crate) fn counts_vote_twice(call: &mut Call) -> (u32, u32) {
+    let Some((state, message)) = heard(call, Kind::VoteYes) else { return independent(call) };
+    if state.role != Role::Candidate || !state.voters.contains(&message.from()) {
+        return independent(call);
+    }
+    let missing = (1..=call.n).find(|&hub| !state.voters.contains(&Hub(hub)));
+    let text = message.with_number("from", missing.expect("less than a majority among the voters")).text();
+    independent(&mut call.with_input(text.as_bytes()))
+}
+
+/// The asked hub does not compare ballots. That alone is safe: the candidate refuses its vote with 7.
+pub fn says_yes_to_lower_ballot(call: &mut Call) -> (u32, u32) {
+    match heard(call, Kind::VoteRequest) {
+        Some((state, message)) if message.term() > state.term => {
+            let ballot = state.ballot.0.max(message.number("ballot"));
+            let text = message.with_number("ballot", ballot).text();
+            independent(&mut call.with_input(text.as_bytes()))
+        }
+        _ => independent(call),
+    }
+}
+
+/// Neither the asked hub nor the candidate compares ballots.
+pub(crate) fn votes_for_lower_ballot(call: &mut Call) -> (u32, u32) {
+    match heard(call, Kind::VoteYes) {
+        Some((state, message)) if state.role == Role::Candidate && message.term() == state.term => {
+            // With the highest ballot that a candidate may have, it takes any vote. A leader has its term for its ballot.
+            put_number(call.state, BALLOT_AT, state.term.0 - 1);
+            let answer = independent(call);
+            if role(call.state) != Some(Role::Leader) {
+                put_number(call.state, BALLOT_AT, state.ballot.0);
+            }
+            answer
+        }
+        _ => says_yes_to_lower_ballot(call),
+    }
+}
+
+/// At each place that was held and is told of again, the pair with the lesser ballot stays.
+pub(crate) fn keeps_lesser_ballot(call: &mut Call) -> (u32, u32) {
+    let before = heard(call, Kind::VoteYes);
+    let answer = independent(call);
+    let Some((state, message)) = before.filter(|_| answer.0 == 0) else { return answer };
+    let ballot = Term(message.number("ballot"));
+    let places = (state.log.len() as u32 + 1..).map(Place);
+    for (place, (held, entry)) in places.zip(state.gathered.iter().zip(&message.entries)) {
+        let lesser = if ballot < held.0 { (ballot, entry.1) } else { *held };
+        let row = &mut call.state[row_at(place)..][..ROW_SIZE];
+        row[4..].copy_from_slice(&lesser.1);
+        // Once the hub leads, the row has its term.
+        if number_at(row, 0) < state.term.0 {
+            put_number(row, 0, lesser.0.0);
+        }
+    }
+    answer
+}
+
+pub(crate) fn chooses_with_one_less(call: &mut Call) -> (u32, u32) {
+    let heard = heard(call, Kind::AppendYes);
+    let answer = independent(call);
+    if let (Some(_), Some(state), 0) = (heard, State::read(call.state), answer.0) {
+        let mut confirmed = state.confirmed;
+        confirmed.sort_by(|one, other| other.cmp(one));
+        let too_few = call.n as usize / 2;
+        put_number(call.state, CHOSEN_AT, state.chosen.max(confirmed[too_few - 1]).0);
+    }
+    answer
+}
+
+/// One place more is acknowledged than the append had.
+fn acknowledges_too_much(call: &mut Call) -> (u32, u32) {
+    let (outcome, written) = independent(call);
+    match Message::read(&call.out[..written as usize]) {
+        Some(message) if message.kind == Kind::AppendYes && message.number("end") < 256 => {
+            let end = message.number("end") + 1;
+            let text = message.with_number("end", end).text();
+            call.out[..text.len()].copy_from_slice(text.as_bytes());
+            (outcome, text.len() as u32)
+        }
+        _ => (outcome, written),
+    }
+}
+
+/// The ballot is not stored: after a restart it is taken to be the term of the log's last entry.
+fn forgets_ballot(call: &mut Call) -> (u32, u32) {
+    let answer = independent(call);
+    if let (RESTART, Some(state)) = (call.event, State::read(call.state)) {
+        put_number(call.state, BALLOT_AT, state.log.last().map_or(0, |entry| entry.0.0));
+    }
+    answer
+}

@@ -1,0 +1,81 @@
+//! For each scenario a hub that makes the mistake it is about: the independent program with that mistake put around its step. So one sees
+//! that the scenario's text would not come out of such a hub.
+
+use crate::broken::{
+    chooses_with_one_less, counts_vote_twice, cuts_longer_log, heard, keeps_lesser_ballot,
+    votes_for_lower_ballot,
+};
+use crate::call::{Call, Step, independent};
+use crate::view::{Kind, LOST, Role, State, confirmed_at, put_number};
+
+/// Each scenario with its mistake; some scenarios are about several.
+pub const MISTAKES: [(&str, Step); 13] = [
+    ("append-at-leader", steps_down),
+    ("divergent-logs", cuts_longer_log),
+    ("divergent-logs", keeps_lesser_ballot),
+    ("divergent-logs", votes_for_lower_ballot),
+    ("end-beyond-log", takes_end_beyond_log),
+    ("late-refusal", lowers_confirmed),
+    ("leader-returns", cuts_longer_log),
+    ("old-entry-chosen", votes_for_lower_ballot),
+    ("old-entry-not-chosen", chooses_with_one_less),
+    ("own-end", acknowledges_own_end),
+    ("repeated-vote", counts_vote_twice),
+    ("second-candidate", votes_at_own_term),
+    ("smaller-term", votes_at_own_term),
+];
+
+/// Whoever sends an append leads, so the hub does not.
+fn steps_down(call: &mut Call) -> (u32, u32) {
+    if heard(call, Kind::Append).is_some_and(|(state, _)| state.role == Role::Leader) {
+        call.state[LOST].fill(0);
+    }
+    independent(call)
+}
+
+/// An end beyond the leader's log counts as its whole log.
+fn takes_end_beyond_log(call: &mut Call) -> (u32, u32) {
+    match heard(call, Kind::AppendYes) {
+        Some((state, message)) if state.role == Role::Leader => {
+            let end = message.number("end").min(state.log.len() as u32);
+            let text = message.with_number("end", end).text();
+            independent(&mut call.with_input(text.as_bytes()))
+        }
+        _ => independent(call),
+    }
+}
+
+/// A refusal says how far the follower is, whenever it comes.
+fn lowers_confirmed(call: &mut Call) -> (u32, u32) {
+    match heard(call, Kind::AppendNo) {
+        Some((state, message)) if state.role == Role::Leader && message.term() == state.term => {
+            put_number(call.state, confirmed_at(message.from()), message.number("length"));
+            (0, 0)
+        }
+        _ => independent(call),
+    }
+}
+
+/// Every append is acknowledged, with the end of the follower's own log.
+fn acknowledges_own_end(call: &mut Call) -> (u32, u32) {
+    let appended = heard(call, Kind::Append);
+    let (outcome, written) = independent(call);
+    let (Some((_, append)), Some(state), 0) = (appended, State::read(call.state), outcome) else {
+        return (outcome, written);
+    };
+    let (term, from, to, end) = (state.term.0, call.own.0, append.from().0, state.log.len());
+    let text = format!("type=append-yes\nterm={term}\nfrom={from}\nto={to}\nend={end}\n");
+    call.out[..text.len()].copy_from_slice(text.as_bytes());
+    (outcome, text.len() as u32)
+}
+
+/// A follower says yes to whoever asks at its term, as if it had not heard of that term.
+fn votes_at_own_term(call: &mut Call) -> (u32, u32) {
+    match heard(call, Kind::VoteRequest) {
+        Some((state, message)) if state.role == Role::Follower && message.term() == state.term => {
+            put_number(call.state, 0, state.term.0 - 1);
+            independent(call)
+        }
+        _ => independent(call),
+    }
+}

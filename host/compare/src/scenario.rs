@@ -1,0 +1,227 @@
+//! Scenarios as text: a script says which hub does what, and playing it gives a text with each step's outcome, message and resulting
+//! state, and at the end what every hub reports. MultiPaxos is kept beside them as it is beside random runs.
+//!
+//! `cargo run --release --offline -p compare --bin scenario -- FILE` prints the text of a script. A script has one thing on a line:
+//!
+//! ```text
+//! # a comment
+//! hubs 3                  the group's size, first of all
+//! 1 starts: ask           hub 1 starts; its message is called `ask` (a message without a name is lost)
+//! 2 hears ask: yes        hub 2 receives `ask`, any number of times; what it answers is called `yes`
+//! 1 proposes c250         a command: its letter is the motor (c is 3), its number the ms of a buzz with gain 0.5
+//! 1 sends 2 from 0: all   hub 1 sends to hub 2 from prev 0
+//! 2 restarts
+//! text forged             the lines `| key=value` that follow are a message that no hub has written
+//! ```
+
+use crate::call::{Call, PROPOSE, RECEIVE, RESTART, SEND, START, Step};
+use crate::checker::{Checker, Deed};
+use crate::messages::ROOM;
+use crate::view::{Command, Role, Row, STATE_SIZE, State, hex, put_number};
+use independent::Hub;
+use std::collections::{BTreeMap, BTreeSet};
+use std::fmt::Write;
+
+/// The text of a script, or what is wrong with the script or with the hubs, and in which line.
+pub fn play(script: &str, step: Step) -> Result<String, String> {
+    let mut stage = Stage::new(step);
+    for (number, line) in (1..).zip(script.lines()) {
+        let line = line.trim();
+        if !line.is_empty() && !line.starts_with('#') {
+            stage.line(line).map_err(|wrong| format!("line {number}, {line}: {wrong}"))?;
+        }
+    }
+    Ok(stage.ended())
+}
+
+/// What a script's line makes a hub do.
+struct Order {
+    hub: Hub,
+    event: u32,
+    a: u32,
+    b: u32,
+    input: Vec<u8>,
+    /// Whether the input is a text that no hub wrote.
+    forged: bool,
+}
+
+struct Stage {
+    step: Step,
+    states: Vec<Vec<u8>>,
+    texts: BTreeMap<String, Vec<u8>>,
+    forged: BTreeSet<String>,
+    /// The text that `|` lines go on with.
+    open: String,
+    checker: Checker,
+    told: String,
+}
+
+fn number(word: &str) -> Result<u32, String> {
+    word.parse().map_err(|_| format!("{word} is no number"))
+}
+
+impl Stage {
+    fn new(step: Step) -> Stage {
+        Stage {
+            step,
+            states: Vec::new(),
+            texts: BTreeMap::new(),
+            forged: BTreeSet::new(),
+            open: String::new(),
+            checker: Checker::new(0),
+            told: String::new(),
+        }
+    }
+
+    fn line(&mut self, line: &str) -> Result<(), String> {
+        if let Some(text) = line.strip_prefix("| ") {
+            let open = self.texts.get_mut(&self.open).ok_or("no text is open")?;
+            open.extend_from_slice(format!("{text}\n").as_bytes());
+            return Ok(());
+        }
+        let (order, name) = line.split_once(": ").map_or((line, None), |(order, name)| (order, Some(name)));
+        match order.split(' ').collect::<Vec<_>>()[..] {
+            ["hubs", size] => self.gather(number(size)?),
+            ["text", name] => self.forge(name),
+            [hub, ref rest @ ..] => {
+                let order = self.order(number(hub)?, rest)?;
+                let _ = writeln!(self.told, "{line}");
+                self.perform(&order, name)
+            }
+            [] => Err("nothing to do".to_string()),
+        }
+    }
+
+    fn gather(&mut self, size: u32) -> Result<(), String> {
+        self.states = vec![vec![0; STATE_SIZE]; size as usize];
+        self.checker = Checker::new(size);
+        Ok(())
+    }
+
+    fn forge(&mut self, name: &str) -> Result<(), String> {
+        self.open = name.to_string();
+        self.forged.insert(name.to_string());
+        self.texts.insert(name.to_string(), Vec::new());
+        Ok(())
+    }
+
+    fn order(&self, hub: u32, words: &[&str]) -> Result<Order, String> {
+        if hub == 0 || hub as usize > self.states.len() {
+            return Err(format!("there is no hub {hub}"));
+        }
+        let plain = Order { hub: Hub(hub), event: 0, a: 0, b: 0, input: Vec::new(), forged: false };
+        match *words {
+            ["starts"] => Ok(Order { event: START, ..plain }),
+            ["restarts"] => Ok(Order { event: RESTART, ..plain }),
+            ["proposes", name] => Ok(Order { event: PROPOSE, input: command(name)?.to_vec(), ..plain }),
+            ["sends", peer, "from", prev] => {
+                Ok(Order { event: SEND, a: number(peer)?, b: number(prev)?, ..plain })
+            }
+            ["hears", name] => {
+                let input = self.texts.get(name).ok_or(format!("no message is called {name}"))?.clone();
+                Ok(Order { event: RECEIVE, input, forged: self.forged.contains(name), ..plain })
+            }
+            _ => Err("no such order".to_string()),
+        }
+    }
+
+    fn perform(&mut self, order: &Order, name: Option<&str>) -> Result<(), String> {
+        let &Order { hub, event, a, b, ref input, forged } = order;
+        let n = self.states.len() as u32;
+        let state = &mut self.states[hub.0 as usize - 1];
+        let mut out = vec![0; ROOM];
+        let (outcome, written) =
+            (self.step)(&mut Call { n, own: hub, event, a, b, state, input, out: &mut out });
+        out.truncate(written as usize);
+        // No machine stands behind a text that nobody wrote: only a refusal can be looked at, and it leaves the state.
+        if !forged || outcome == 0 {
+            let deed = Deed { hub, event, input, outcome, state, text: &out };
+            self.checker.see(&deed).map_err(|reason| format!("{reason:?}"))?;
+        }
+        self.tell(hub, outcome, &out);
+        match (name, out.is_empty()) {
+            (Some(_), true) => Err("no message was written".to_string()),
+            (Some(name), false) => {
+                self.texts.insert(name.to_string(), out);
+                Ok(())
+            }
+            (None, _) => Ok(()),
+        }
+    }
+
+    // ---- what is told
+
+    fn tell(&mut self, hub: Hub, outcome: u32, text: &[u8]) {
+        let _ = writeln!(self.told, "  outcome {outcome}");
+        for line in String::from_utf8_lossy(text).lines() {
+            let _ = writeln!(self.told, "  | {line}");
+        }
+        let state = State::read(&self.states[hub.0 as usize - 1]);
+        let shown = state.map_or("no state".to_string(), |state| shown(&state, self.states.len()));
+        let _ = writeln!(self.told, "  hub {}: {shown}", hub.0);
+    }
+
+    fn ended(mut self) -> String {
+        self.told += "at the end\n";
+        for (hub, bytes) in (1..).zip(&self.states) {
+            let reported: Vec<String> = State::read(bytes)
+                .iter()
+                .flat_map(State::reported)
+                .map(|command| name_of(&command))
+                .collect();
+            let _ = writeln!(self.told, "  hub {hub} reports {}", list(&reported));
+        }
+        self.told
+    }
+}
+
+/// The words of a list; a dash for none.
+fn list(words: &[String]) -> String {
+    if words.is_empty() { "-".to_string() } else { words.join(" ") }
+}
+
+/// A state in a line; the lost parts as the role has them.
+fn shown(state: &State, hubs: usize) -> String {
+    let kept = format!(
+        "term {}, ballot {}, chosen {}, log {}",
+        state.term.0,
+        state.ballot.0,
+        state.chosen.0,
+        rows(&state.log)
+    );
+    let numbers = |all: &[u32]| list(&all.iter().map(u32::to_string).collect::<Vec<_>>());
+    match state.role {
+        Role::Follower => format!("follower, {kept}"),
+        Role::Candidate => {
+            let voters: Vec<u32> = state.voters.iter().map(|hub| hub.0).collect();
+            format!("candidate, {kept}, voters {}, gathered {}", numbers(&voters), rows(&state.gathered))
+        }
+        Role::Leader => {
+            let confirmed: Vec<u32> = state.confirmed[..hubs].iter().map(|length| length.0).collect();
+            format!("leader, {kept}, confirmed {}", numbers(&confirmed))
+        }
+    }
+}
+
+fn rows(rows: &[Row]) -> String {
+    list(&rows.iter().map(|(term, command)| format!("{}:{}", term.0, name_of(command))).collect::<Vec<_>>())
+}
+
+// ---- commands by name
+
+/// The command of a name: a letter for the motor and a number for the ms.
+fn command(name: &str) -> Result<Command, String> {
+    let wrong = || format!("{name} is no command");
+    let letter = name.bytes().next().filter(u8::is_ascii_lowercase).ok_or_else(wrong)?;
+    let duration = name[1..].parse().map_err(|_| wrong())?;
+    let mut bytes = [0, letter - b'a' + 1, 0, 1, 0, 0, 0, 0, 0x3f, 0, 0, 0, 0, 0, 0, 0];
+    put_number(&mut bytes, 4, duration);
+    Ok(bytes)
+}
+
+/// The name of a command; its digits if it has none.
+fn name_of(bytes: &Command) -> String {
+    let letter = char::from(bytes[1].wrapping_add(b'a' - 1));
+    let name = format!("{letter}{}", u32::from_be_bytes([bytes[4], bytes[5], bytes[6], bytes[7]]));
+    if command(&name).as_ref() == Ok(bytes) { name } else { hex(bytes) }
+}
