@@ -19,7 +19,6 @@ use Rattle.state.specs.State.{State}
 use Rattle.state.specs.Legal.{legalState}
 use Rattle.state.specs.Head.{headOf}
 use Rattle.state.specs.Image.{image, stateIn}
-use Rattle.state.proofs.ImageLaws.{stateIn-image}
 use Rattle.rules.specs.Outcome.{Next, done, refuses, bad-message, not-addressed, stale, contradicting, nothing-new}
 use Rattle.rules.specs.Events.{withTerm}
 use Rattle.rules.specs.Receive.{Effect, idle, effect, rule, isMisaddressed, isStale, staleReply, contradicts, raised, afterRaise, atOwnTerm, receive}
@@ -28,7 +27,7 @@ use Rattle.rules.proofs.LegalLaws.{IsMessage, legalMessage-is}
 use Rattle.rules.proofs.ReceiveLaws.{stale-term, own-term, raised-agrees, receive-fair}
 use Rattle.rules.specs.Theorems.{Says}
 use Rattle.step.specs.Promise.{Answers, Ready, Raises, leftBy, Gives, ruledBy, saidBy}
-use Rattle.step.proofs.PromiseLaws.{ready-legal, ready-head, ready-term, ready-who, gives-answers}
+use Rattle.step.proofs.PromiseLaws.{ready-legal, ready-next, ready-head, ready-term, ready-who, gives-answers}
 use Rattle.step.proofs.LostLaws.{raised-legal}
 use Rattle.step.specs.Gate.{gate}
 use Rattle.step.proofs.StepLaws.{step-receive}
@@ -38,7 +37,6 @@ use Rattle.receive.specs.declared.Told.{Told}
 use Rattle.receive.specs.Heard.{bodyIn, messageIn, heard, didBy, toldBy, Comes, Replied, Obeyed, Receives, Addressed, Obeys}
 use Rattle.receive.proofs.FieldsLaws.{Stands}
 use Rattle.receive.proofs.ReplyLaws.{message-legal, may-answer}
-use Rattle.receive.proofs.RuleLaws.{image-ready}
 
 -- An outcome, and how many bytes were written.
 abbrev told : ℕ → ℕ → Told
@@ -140,7 +138,7 @@ module _ (w : Who) (h : Head) (l : List ℕ) (f : Fields) (s out : List ℕ) (d 
 
     -- The follower's bytes hold the follower.
     risen-held : {l1 : List ℕ} → l1 ≡ image risen → stateIn l1 ≡ risen
-    risen-held e = ap stateIn e ∙ stateIn-image w risen risen-legal
+    risen-held e = ready-next w l is-ready risen risen-legal e .1
 
     -- The rule may be obeyed there.
     pub may-obey-risen : {l1 : List ℕ} → l1 ≡ image risen → Obeys w l1 f s out
@@ -149,7 +147,7 @@ module _ (w : Who) (h : Head) (l : List ℕ) (f : Fields) (s out : List ℕ) (d 
         let is = risen-held e in
         record {
           receives = record {
-            ready = subst (λ (x : List ℕ). Ready w x) (sym e) (image-ready w l is-ready risen risen-legal);
+            ready = ready-next w l is-ready risen risen-legal e .0;
             room = d .receives .room;
             lie = d .receives .lie;
             legal = d .receives .legal;

@@ -23,7 +23,6 @@ use Rattle.message.specs.declared.Fields.{Fields}
 use Rattle.state.specs.State.{Kept, State}
 use Rattle.state.specs.Legal.{legalState}
 use Rattle.state.specs.Image.{image, stateIn}
-use Rattle.state.proofs.ImageLaws.{stateIn-image, readState-image}
 use Rattle.rules.specs.Events.{len, says}
 use Rattle.rules.specs.Receive.{Effect, idle, effect, vote, heardYes, fits, taken, heardAppend, heardEnd, rule, contradicts}
 use Rattle.rules.specs.Step.{over, written}
@@ -31,7 +30,7 @@ use Rattle.rules.proofs.BoolLaws.{cond-either}
 use Rattle.rules.proofs.MessageLaws.{append-is}
 use Rattle.rules.proofs.Fair.{IsPeer}
 use Rattle.step.specs.Promise.{Ready, HearsEnd, HearsAppend, isEffect, ruledBy, saidBy, Ruled}
-use Rattle.step.proofs.PromiseLaws.{ready-image, ready-legal, ready-who}
+use Rattle.step.proofs.PromiseLaws.{ready-image, ready-legal, ready-next, ready-who}
 use Rattle.gather.specs.Yes.{Hears}
 use Rattle.replace.specs.Taken.{takenBy}
 use Rattle.replace.proofs.TakenLaws.{append-fits, append-misses, takenBy-legal}
@@ -40,13 +39,6 @@ use Rattle.receive.specs.declared.Did.{Did}
 use Rattle.receive.specs.declared.Did.the-variants.{Nothing, Wrote}
 use Rattle.receive.specs.Heard.{bodyIn, didBy, Obeyed, Obeys}
 use Rattle.receive.proofs.ReplyLaws.{message-legal, peer, may-answer}
-
--- ---- the bytes of a next state
-
--- The image of a legal state is ready.
-pub image-ready : (w : Who) (l : List ℕ) → Ready w l → (t : State) → legalState w t ≡ true → Ready w (image t)
-image-ready w l r t g =
-    record { size = r .size; own = r .own; held = readState-image w t g ∙ ap some (sym (stateIn-image w t g)) }
 
 -- ---- what a call comes to
 
@@ -223,17 +215,11 @@ module _ (w : Who) (l : List ℕ) (f : Fields) (s out : List ℕ) (o : Obeys w l
     pub may-say-after : {l′ : List ℕ} → l′ ≡ image left → Answering w l′ (f .from .0) out
     may-say-after el =
         let a = may-say in
+        let next = ready-next w l ready left left-legal el in
         let same =
-        ap (λ (x : State). x .kept .term) (stateIn-image w left left-legal)
+        ap (λ (x : State). x .kept .term) (next .1)
         ∙ after-term w (stateIn l) (prev .0) (prevterm .0) (chosen .0) (entriesFrom count s) in
-        rw el
-        (record {
-          ready = image-ready w l ready left left-legal;
-          risen = omega (arith, same, a .risen);
-          to-first = a .to-first;
-          to-last = a .to-last;
-          room = a .room;
-        })
+        record { ready = next .0; risen = omega (arith, same, a .risen); to-first = a .to-first; to-last = a .to-last; room = a .room }
 
     -- It was taken or not, and answered.
     pub append-obeyed :
@@ -246,7 +232,7 @@ module _ (w : Who) (l : List ℕ) (f : Fields) (s out : List ℕ) (o : Obeys w l
         let counted = entries-are .count-is in
         by-type e
         (append-answered w (stateIn l) (prev .0) (prevterm .0) (chosen .0) (entriesFrom count s) (f .from .0) b
-        (ap stateIn el ∙ stateIn-image w left left-legal)
+        (ready-next w l ready left left-legal el .1)
         (ap (λ (p : Place). p .0) ee ∙ omega (arith, counted, en))
         (eb ∙ ap (λ (k : ℕ). fits (stateIn l .kept) (prev .0) (prevterm .0) (prev .0 + k)) (sym counted))
         el said)

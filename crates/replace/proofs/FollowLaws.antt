@@ -3,22 +3,21 @@ use Prim.Native.Nat.{ℕ, _+_}
 use mathlib.Core.Path.{_≡_, sym, _∙_, ap}
 use mathlib.Core.Bool.{Bool, true}
 use mathlib.Core.List.{List}
-use mathlib.Core.Option.{some}
 use Rattle.kinds.specs.Sizes.{Who}
 use Rattle.message.specs.Walk.{entriesFrom}
 use Rattle.state.specs.declared.Head.{Head}
 use Rattle.state.specs.State.{follower, State}
 use Rattle.state.specs.Legal.{legalState}
-use Rattle.state.specs.Image.{image, stateIn, readState}
+use Rattle.state.specs.Image.{image, stateIn}
 use Rattle.state.specs.Head.{headIn, headOf}
 use Rattle.state.proofs.LegalLaws.{legal-held}
-use Rattle.state.proofs.ImageLaws.{image-head, stateIn-image, readState-image}
+use Rattle.state.proofs.ImageLaws.{image-head}
 use Rattle.rules.specs.Events.{withTerm}
 use Rattle.rules.specs.Receive.{raised, fits}
 use Rattle.rules.proofs.LegalLaws.{legalState-kept, follower-legal}
 use Rattle.step.specs.Promise.{Ready, HearsAppend}
 use Rattle.step.specs.Heads.{following}
-use Rattle.step.proofs.PromiseLaws.{ready-legal, ready-head, ready-term}
+use Rattle.step.proofs.PromiseLaws.{ready-legal, ready-head, ready-next, ready-term}
 use Rattle.step.proofs.HeadsLaws.{following-head}
 use Rattle.replace.specs.Taken.{takenBy, Followed, Heard}
 
@@ -46,19 +45,15 @@ module _ (w : Who) (l : List ℕ) (r : Ready w l) where
       let own : h .term .0 ≡ s .kept .term = ap (λ (x : Head). x .term .0) eh ∙ ready-term w l r in
       let all = eh ∙ ready-head w l r in
       let bytes : l′ ≡ image after = el ∙ ap image (raised-own (h .term .0) own) in
-      let is : stateIn l′ ≡ after = ap stateIn bytes ∙ stateIn-image w after after-legal in
+      let next = ready-next w l r after after-legal bytes in
       let head : f ≡ headOf (s .kept) follower =
       ef ∙ ap (λ (x : Head). following x (x .term)) all ∙ following-head (s .kept) (s .lost) (s .kept .term) in
       record {
         tested = record {
-          ready = record {
-            size = r .size;
-            own = r .own;
-            held = ap (readState w) bytes ∙ readState-image w after after-legal ∙ ap some (sym is);
-          };
+          ready = next .0;
           head = head ∙ sym (ap headIn bytes ∙ image-head after (legal-held w after after-legal));
         };
-        state-is = is;
+        state-is = next .1;
       }
 
 -- ---- an append that it hears

@@ -1,30 +1,26 @@
 -- Laws of the event start: each of its outcomes by what the code tests, and the request that is written. Assumes nothing.
 use Prim.Native.Nat.{ℕ, _*_, _≤_}
 use native.Mathlib.Omega.{arith}
-use mathlib.Core.Path.{_≡_, refl, sym, _∙_, ap}
-use mathlib.Core.Bool.{true}
+use mathlib.Core.Path.{_≡_, refl, sym, _∙_}
 use mathlib.Core.List.{List}
 use mathlib.Core.Option.{some}
 use borrow.Author.Tests.{eq-eqb}
 use lib.ListN.{length}
 use Rattle.kinds.specs.declared.Hub.{Hub}
 use Rattle.kinds.specs.Of.{hub}
-use Rattle.kinds.specs.Sizes.{Who, isSize, isHub, term-most, text-room}
+use Rattle.kinds.specs.Sizes.{Who, term-most, text-room}
 use Rattle.message.specs.Message.{entriesOf, vote-request}
 use Rattle.message.specs.declared.Body.the-variants.{VoteRequest}
 use Rattle.state.specs.declared.Head.{Head}
-use Rattle.state.specs.State.{State}
-use Rattle.state.specs.Legal.{legalState}
 use Rattle.state.specs.Image.{image, stateIn}
 use Rattle.state.specs.Head.{headIn}
-use Rattle.state.proofs.ImageLaws.{stateIn-image, readState-image}
 use Rattle.rules.specs.Outcome.{goes, wrong-role, no-term-left}
 use Rattle.rules.specs.Events.{says, started, asks, start}
 use Rattle.rules.proofs.Fair.{Sound}
 use Rattle.rules.proofs.EventsLaws.{start-fair}
 use Rattle.step.specs.Promise.{Ready, Starts, Gives}
 use Rattle.step.specs.Append.{Tested}
-use Rattle.step.proofs.PromiseLaws.{ready-legal, ready-who}
+use Rattle.step.proofs.PromiseLaws.{ready-legal, ready-next, ready-who}
 use Rattle.step.proofs.LostLaws.{start-goes}
 use Rattle.step.proofs.AppendLaws.{tested-length, tested-ballot, tested-term}
 use Rattle.say.specs.Said.{Said}
@@ -80,14 +76,6 @@ module _ (w : Who) (h : Head) (l : List ℕ) (t : Tested w h l) where
 
 -- ---- a start that takes effect
 
--- The image of a legal state is ready, and says that state.
-image-ready :
-    (w : Who) (t : State) {l : List ℕ} → isSize (w .size) ≡ true → isHub (w .size) (w .own) ≡ true → legalState w t ≡ true → l ≡ image t
-    → Ready w l × (stateIn l ≡ t)
-image-ready w t size own legal e =
-    let same = stateIn-image w t legal in
-    rw e (record { size = size; own = own; held = readState-image w t legal ∙ ap some (sym same) }, same)
-
 module _ (w : Who) (h : Head) (l : List ℕ) (k : Starts w h l) where
   start-is : start w (stateIn l) ≡ goes (started w (stateIn l)) (some (asks w (started w (stateIn l))))
   start-is =
@@ -99,7 +87,7 @@ module _ (w : Who) (h : Head) (l : List ℕ) (k : Starts w h l) where
 
   module _ {l′ : List ℕ} (left : l′ ≡ image (started w (stateIn l))) where
     risen : Ready w l′ × (stateIn l′ ≡ started w (stateIn l))
-    risen = image-ready w (started w (stateIn l)) (k .ready .size) (k .ready .own) (start-sound .legal) left
+    risen = ready-next w l (k .ready) (started w (stateIn l)) (start-sound .legal) left
 
     -- The bytes are ready again.
     pub start-ready : Ready w l′

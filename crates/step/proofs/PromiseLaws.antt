@@ -1,27 +1,24 @@
 -- Laws of the promises: bytes that are ready are their state's image, what writes make of them, and that no second answer satisfies a promise.
 -- Assumes nothing.
-use Prim.Native.Nat.{ℕ, _+_, _-_, _*_, _≤_, _<_}
+use Prim.Native.Nat.{ℕ, _+_, _-_, _*_, _≤_}
 use native.Mathlib.Omega.{arith}
 use mathlib.Core.Path.{_≡_, refl, sym, _∙_, ap}
-use mathlib.Core.Bool.{Bool, true, false, cond}
-use mathlib.Core.List.{List, [], _∷_, _++_, map}
-use mathlib.Core.Option.{Option, none, some}
-use borrow.Author.Tests.{eqb-true, ne-eqb, eq-eqb}
-use lib.Dec.{eqb}
+use mathlib.Core.Bool.{true}
+use mathlib.Core.List.{List, _++_, map}
+use mathlib.Core.Option.{none, some}
+use borrow.Author.Tests.{ne-eqb}
 use lib.ListN.{length, take, drop, replicate}
 use lib.Seq.{sets}
 use Rattle.kinds.specs.Of.{place}
 use Rattle.kinds.specs.Sizes.{Who, limit}
-use Rattle.message.specs.Message.{Message}
 use Rattle.state.specs.declared.Head.{Head}
-use Rattle.state.specs.State.{Kept, Lost, State}
+use Rattle.state.specs.State.{State}
 use Rattle.state.specs.Legal.{legalState}
-use Rattle.state.specs.Image.{head-size, row-size, state-size, roleOf, gatheredOf, confirmedOf, bytesOf, image, stateIn, readState}
+use Rattle.state.specs.Image.{head-size, row-size, state-size, roleOf, gatheredOf, confirmedOf, bytesOf, image, stateIn}
 use Rattle.state.specs.Head.{headIn, bytesOfHead, headOf}
 use Rattle.state.specs.Table.{Row, rowBytes, rowsOf}
-use Rattle.state.specs.Check.{isSome}
 use Rattle.state.proofs.LegalLaws.{Held, legal-held}
-use Rattle.state.proofs.ImageLaws.{image-head, legal-length, readState-sound}
+use Rattle.state.proofs.ImageLaws.{image-head, legal-length, readState-image, readState-sound, stateIn-image}
 use Rattle.state.proofs.ImageWrites.{image-headed, image-put, image-clear}
 use Rattle.rules.specs.Outcome.{Next, done, goes, refuses}
 use Rattle.rules.specs.Step.{Call, Answer, over, written, answer}
@@ -101,6 +98,12 @@ module _ (w : Who) (l : List ℕ) (r : Ready w l) where
   -- ---- writes
 
   module _ (t : State) (g : legalState w t ≡ true) where
+    -- The image of another legal state is ready, and says that state.
+    pub ready-next : {l′ : List ℕ} → l′ ≡ image t → Ready w l′ × (stateIn l′ ≡ t)
+    ready-next e =
+        let same = stateIn-image w t g in
+        rw e (record { size = r .size; own = r .own; held = readState-image w t g ∙ ap some (sym same) }, same)
+
     -- Only the head is written.
     pub ready-headed : rowsOf t ≡ rowsOf (stateIn l) → sets l 0 (bytesOfHead (headOf (t .kept) (t .lost))) ≡ image t
     ready-headed e = rw ready-image at (image-headed (stateIn l) t ready-held (legal-held w t g) e)
