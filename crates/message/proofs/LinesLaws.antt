@@ -1,23 +1,23 @@
 -- The lines of fields, one after the other, from what the code found at each: up to four of them, of any type and in any ranges.
 -- Assumes nothing.
-use Prim.Native.Nat.{ℕ, _≤_}
+use Prim.Native.Nat.{ℕ}
 use mathlib.Core.Bool.{Bool, true, false, cond}
 use mathlib.Core.List.{List, [], _∷_, _++_}
-use mathlib.Core.Path.{_≡_, refl, subst, sym, _∙_}
-use lib.ListN.{length, drop}
+use mathlib.Core.Path.{_≡_, refl, subst, _∙_}
+use lib.ListN.{drop}
 use Rattle.text.specs.Found.{Found, FoundNumber}
 use Rattle.text.specs.Range.{lineIn}
-use Rattle.text.specs.Reader.{Got, got, lost, Reader, onward}
+use Rattle.text.specs.Reader.{lost}
 use Rattle.text.specs.declared.Number.{Number}
 use Rattle.text.specs.declared.Number.the-variants.{Is, Bad}
 use Rattle.text.proofs.ReaderLaws.{onward-got, onward-lost}
 use Rattle.message.specs.Fields.{MessageType, Field, ownFields}
 use Rattle.message.specs.Text.{key}
-use Rattle.message.specs.Range.{Range, upTo, from-to, toRange, range, linesIn}
+use Rattle.message.specs.Range.{upTo, from-to, toRange, range, linesIn}
 use Rattle.message.specs.Answer.{typeIs, unlessRequest}
 use Rattle.message.specs.declared.Kind.{Kind}
 use Rattle.message.specs.declared.Kind.the-variants.{VoteRequest, VoteYes, VoteNo, Append, AppendYes, AppendNo}
-use Rattle.message.specs.Opening.{Opening, ownLines}
+use Rattle.message.specs.Opening.{ownLines}
 
 -- ---- one line
 

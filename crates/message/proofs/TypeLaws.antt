@@ -5,7 +5,7 @@ use mathlib.Core.Path.{_≡_, refl, subst, sym, _∙_}
 use lib.ListN.{length, drop}
 use Rattle.text.specs.Found.{Found, FoundNext}
 use Rattle.text.specs.Line.{LF}
-use Rattle.text.specs.Reader.{Got, got, lost, Reader, onward, literal}
+use Rattle.text.specs.Reader.{Got, got, lost, literal}
 use Rattle.text.specs.declared.Next.{Next}
 use Rattle.text.specs.declared.Next.the-variants.{At, Bad}
 use Rattle.text.proofs.ReaderLaws.{lost-never, onward-got, onward-lost}

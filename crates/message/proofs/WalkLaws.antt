@@ -1,24 +1,23 @@
 -- Entry lines that stand in a text: one line after the other, and the part of a message that was read. Assumes nothing.
 use Prim.Native.Nat.{ℕ, _-_, _≤_, _<_}
 use native.Mathlib.Omega.{arith}
-use mathlib.Core.Path.{_≡_, refl, sym, _∙_, ap, subst}
-use mathlib.Core.Bool.{Bool, true, false, _&&_}
+use mathlib.Core.Path.{_≡_, refl, sym, _∙_, ap}
+use mathlib.Core.Bool.{Bool, true, false}
 use mathlib.Core.List.{List, [], _∷_, _++_, append-nil}
 use mathlib.Core.Option.{some}
 use lib.ListN.{length, drop}
 use Rattle.kinds.specs.Sizes.{between, term-most}
 use Rattle.kinds.proofs.BetweenLaws.{between-in}
-use Rattle.text.specs.Reader.{Got, got, lost, Reader, onward}
-use Rattle.text.specs.Found.{Found}
-use Rattle.text.proofs.ReaderLaws.{got-value, got-rest, lost-never, Went, onward-got, onward-sound}
-use Rattle.command.specs.Command.{Command, legalCommand}
+use Rattle.text.specs.Reader.{got, lost}
+use Rattle.text.proofs.ReaderLaws.{got-value, got-rest, lost-never, onward-got, onward-sound}
+use Rattle.command.specs.Command.{legalCommand}
 use Rattle.command.specs.Answers.{ofWords}
 use Rattle.command.specs.Entry.{Entry, legalEntries}
 use Rattle.command.proofs.CommandLaws.{legal-ranged}
 use Rattle.command.proofs.EntryLaws.{legalEntries-first, legalEntries-wider}
 use Rattle.kinds.specs.declared.Term.{Term}
 use Rattle.message.specs.Message.{Message, entriesOf}
-use Rattle.message.specs.Text.{entryText, entriesText, entry, entries, read, partFrom}
+use Rattle.message.specs.Text.{entryText, entriesText, entries, read, partFrom}
 use Rattle.message.specs.Range.{legalOnly, entryIn}
 use Rattle.message.specs.Walk.{entryLine, entriesFrom, Lie}
 use Rattle.message.specs.Found.{FoundEntry}
@@ -26,9 +25,9 @@ use Rattle.message.specs.declared.EntryAt.{EntryAt}
 use Rattle.message.specs.declared.EntryAt.the-variants.{Is, End}
 use Rattle.message.proofs.CaseLaws.{entry-at, entry-none}
 use Rattle.message.proofs.EntryLaws.{entryIn-line}
-use Rattle.message.proofs.LegalLaws.{OwnHeld, legal-held}
+use Rattle.message.proofs.LegalLaws.{legal-held}
 use Rattle.message.proofs.TextLaws.{entry-written, entries-written}
-use Rattle.message.proofs.RangeLaws.{keepIf, entryTest, entryIn-is}
+use Rattle.message.proofs.RangeLaws.{keepIf, entryIn-is}
 use Rattle.message.proofs.ReadLaws.{entries-ranged, read-sound, part-entries}
 
 -- ---- one line

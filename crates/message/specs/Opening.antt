@@ -2,20 +2,7 @@
 use Prim.Native.Nat.{ℕ}
 use mathlib.Core.List.{List, [], _∷_}
 use Rattle.text.specs.Reader.{Reader, _>>=_, _>>_, pure, literal}
-use Rattle.message.specs.Fields.{
-  MessageType,
-  type=vote-request,
-  type=vote-yes,
-  type=vote-no,
-  type=append,
-  type=append-yes,
-  type=append-no,
-  Field,
-  term=,
-  from=,
-  to=,
-  ownFields,
-}
+use Rattle.message.specs.Fields.{MessageType, type=vote-request, type=vote-yes, type=vote-no, type=append, type=append-yes, type=append-no, term=, from=, to=, ownFields}
 use Rattle.message.specs.Text.{type=, typeAmong, types}
 use Rattle.message.specs.Range.{linesIn}
 

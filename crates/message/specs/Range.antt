@@ -6,8 +6,7 @@ use mathlib.Core.List.{List, [], _∷_, _++_}
 use lib.Dec.{eqb}
 use lib.ListN.{getD}
 use Rattle.kinds.specs.Sizes.{hubs-most, term-most, limit}
-use Rattle.text.specs.Ascii.{ascii}
-use Rattle.text.specs.Reader.{Got, got, lost, Reader, _>>=_, _>>_, pure, literal}
+use Rattle.text.specs.Reader.{got, lost, Reader, _>>=_, _>>_, pure, literal}
 use Rattle.text.specs.Hex.{hexBytes}
 use Rattle.text.specs.Line.{LF}
 use Rattle.text.specs.Range.{numberIn, lineIn}

@@ -1,14 +1,14 @@
 -- Document 01, "Message text": how a message is written as lines, how a text is read, and the part of a text that holds the entry lines.
 -- Assumes nothing.
 use Prim.Native.Nat.{ℕ, zero, suc, _-_}
-use mathlib.Core.Bool.{Bool, true, false, cond}
+use mathlib.Core.Bool.{cond}
 use mathlib.Core.List.{List, [], _∷_, _++_}
 use mathlib.Core.Option.{Option, none, some}
 use lib.Dec.{leb}
 use lib.ListN.{length}
 use Rattle.kinds.specs.Sizes.{text-room}
 use Rattle.text.specs.Ascii.{ascii}
-use Rattle.text.specs.Reader.{Got, got, lost, Reader, _>>=_, _>>_, pure, literal, whole}
+use Rattle.text.specs.Reader.{got, lost, Reader, _>>=_, _>>_, pure, literal, whole}
 use Rattle.text.specs.Decimal.{decimal, number}
 use Rattle.text.specs.Hex.{hex, hexBytes}
 use Rattle.text.specs.Line.{LF, lineText, line}

@@ -1,5 +1,5 @@
 -- Laws of what a hub reports: each answer by what the code tests, and where a reported command stands. Assumes nothing.
-use Prim.Native.Nat.{ℕ, zero, suc, _+_, _-_, _*_, _≤_, _<_, min}
+use Prim.Native.Nat.{ℕ, zero, suc, _+_, _-_, _*_, _≤_, _<_}
 use native.Mathlib.Omega.{arith}
 use mathlib.Core.Path.{_≡_, refl, sym, _∙_, ap}
 use mathlib.Core.Bool.{true, false}
@@ -8,14 +8,12 @@ use mathlib.Core.Option.{Option, none, some}
 use borrow.Author.Tests.{lt-ltb, le-ltb}
 use lib.ListN.{length, take, drop, length-take, length-map}
 use lib.Seq.{sets, sets-eq, drop-drop}
-use Rattle.kinds.specs.Sizes.{limit}
 use Rattle.command.specs.Words.{part, wordAt}
 use Rattle.command.specs.Command.{Command, command-size, commandBytes, commandOf}
 use Rattle.command.specs.Entry.{Entry}
 use Rattle.command.proofs.WordsLaws.{Bytes}
 use Rattle.command.proofs.CommandLaws.{commandBytes-length}
-use Rattle.state.specs.declared.Head.{Head}
-use Rattle.state.specs.State.{Kept, reported}
+use Rattle.state.specs.State.{reported}
 use Rattle.state.specs.Image.{head-size, row-size, state-size, rowsIn, entryOf, keptIn, readKept}
 use Rattle.state.specs.Head.{headIn}
 use Rattle.state.specs.Check.{isSome}
@@ -24,7 +22,7 @@ use Rattle.state.proofs.PartLaws.{part-drop}
 use Rattle.state.proofs.ImageLaws.{readKept-sound}
 use Rattle.rules.specs.Outcome.{done, bad-state, short-output, bad-send}
 use Rattle.step.specs.declared.Words.{Words}
-use Rattle.step.specs.Words.{commandIn, wordsAt, wordsBytes}
+use Rattle.step.specs.Words.{wordsAt, wordsBytes}
 use Rattle.report.specs.Report.{commandAt, Report, told, reporting, reportOf, Reports, counting, chosenOf}
 use Rattle.step.proofs.GateLaws.{readKept-some, readKept-none}
 use Rattle.step.proofs.WordsLaws.{commandIn-at, command-words, duration-below}

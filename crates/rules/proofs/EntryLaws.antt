@@ -3,17 +3,14 @@ use Prim.Native.Nat.{ℕ, zero, suc, _≤_, _<_, max}
 use native.Mathlib.Omega.{arith}
 use mathlib.Core.Path.{_≡_, refl}
 use mathlib.Core.Logic.{_↔_}
-use mathlib.Core.Bool.{true, _&&_}
+use mathlib.Core.Bool.{true}
 use mathlib.Core.List.{List, [], _∷_, _++_, map}
-use borrow.Author.Tests.{leb-true, le-leb}
-use lib.Dec.{leb}
 use lib.ListN.{length, take, drop}
-use Rattle.kinds.specs.Sizes.{between}
 use Rattle.kinds.proofs.BetweenLaws.{between-in}
 use Rattle.command.specs.Command.{Command, legalCommand}
 use Rattle.command.specs.Entry.{Entry, legalEntries}
 use Rattle.state.specs.Legal.{all}
-use Rattle.command.proofs.EntryLaws.{First, legalEntries-first, first-legalEntries, legalEntries-wider}
+use Rattle.command.proofs.EntryLaws.{legalEntries-first, first-legalEntries, legalEntries-wider}
 use Rattle.rules.specs.Events.{termAt}
 use Rattle.rules.proofs.BoolLaws.{and-first, and-second, and-both}
 

@@ -1,6 +1,6 @@
 -- Document 01, "Events": start, propose, send and restart, each at a legal state. Receive has a file of its own. Assumes nothing.
 use Prim.Native.Nat.{ℕ, _+_, _-_}
-use mathlib.Core.Bool.{Bool, true, false, cond, not, _&&_, _||_}
+use mathlib.Core.Bool.{Bool, true, false, cond, not, _||_}
 use mathlib.Core.List.{List, [], _∷_, _++_, map}
 use mathlib.Core.Option.{Option, none, some}
 use lib.Dec.{leb, ltb, eqb}
@@ -9,7 +9,7 @@ use Rattle.kinds.specs.Sizes.{Who, isHub, hubs-most, term-most, limit}
 use Rattle.command.specs.Command.{Command}
 use Rattle.command.specs.Entry.{Entry}
 use Rattle.message.specs.Message.{Message, Body, vote-request, append}
-use Rattle.state.specs.State.{Kept, Lost, follower, candidate, leader, State}
+use Rattle.state.specs.State.{Kept, follower, candidate, leader, State}
 use Rattle.rules.specs.Outcome.{
   Next,
   goes,

@@ -8,9 +8,9 @@ use lib.ListN.{length, take, drop, replicate}
 use Rattle.kinds.specs.Sizes.{Who, hubs-most, majority}
 use Rattle.command.specs.Entry.{Entry}
 use Rattle.message.specs.Message.{Message, Body, vote-request, vote-yes, vote-no, append, append-yes, append-no}
-use Rattle.state.specs.State.{Kept, Pair, Lost, follower, candidate, leader, State}
+use Rattle.state.specs.State.{Kept, Pair, follower, candidate, leader, State}
 use Rattle.state.specs.Legal.{count}
-use Rattle.rules.specs.Outcome.{Next, done, goes, refuses, not-addressed, stale, contradicting, nothing-new}
+use Rattle.rules.specs.Outcome.{Next, goes, refuses, not-addressed, stale, contradicting, nothing-new}
 use Rattle.rules.specs.Majority.{majorityPlace}
 use Rattle.rules.specs.Events.{isLeader, isCandidate, len, termAt, forHub, setHub, says, withTerm, leads}
 

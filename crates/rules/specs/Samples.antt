@@ -4,7 +4,7 @@ use mathlib.Core.Bool.{Bool, true, false}
 use mathlib.Core.List.{List, [], _∷_, _++_}
 use lib.IntN.{ℤ, pos}
 use lib.ListN.{replicate}
-use Rattle.kinds.specs.Sizes.{Who, text-room}
+use Rattle.kinds.specs.Sizes.{text-room}
 use Rattle.text.specs.Ascii.{ascii}
 use Rattle.command.specs.Command.{Command}
 use Rattle.command.specs.Entry.{Entry}

@@ -1,18 +1,18 @@
 -- One call of the step: all that comes in, all that goes out, and what the one makes of the other. The refusals stand in document 01's order.
 -- Assumes nothing.
 use Prim.Native.Nat.{ℕ}
-use mathlib.Core.Bool.{Bool, true, false, cond, not, _&&_}
+use mathlib.Core.Bool.{cond, _&&_}
 use mathlib.Core.List.{List, [], _++_}
 use mathlib.Core.Option.{Option, none, some}
-use lib.Dec.{leb, ltb, eqb}
+use lib.Dec.{ltb, eqb}
 use lib.ListN.{length, drop}
-use Rattle.kinds.specs.Sizes.{Who, between, isSize, isHub, text-room}
+use Rattle.kinds.specs.Sizes.{Who, isSize, isHub, text-room}
 use Rattle.command.specs.Proposal.{readProposal}
 use Rattle.message.specs.Message.{Message}
 use Rattle.message.specs.Text.{text, read}
 use Rattle.state.specs.State.{Kept, State}
 use Rattle.state.specs.Image.{image, readState, readKept}
-use Rattle.rules.specs.Outcome.{Next, done, refuses, not-known, bad-state, short-output, bad-message}
+use Rattle.rules.specs.Outcome.{Next, done, not-known, bad-state, short-output, bad-message}
 use Rattle.rules.specs.Events.{start, propose, send, restart}
 use Rattle.rules.specs.Receive.{receive}
 

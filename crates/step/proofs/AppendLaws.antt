@@ -1,14 +1,12 @@
 -- Laws of the tests of an append. Assumes nothing.
 use Prim.Native.Nat.{ℕ, zero, suc, _+_, _-_, _*_, _≤_, _<_}
 use native.Mathlib.Omega.{arith}
-use native.Mathlib.Nat.{add-zero}
 use mathlib.Core.Path.{_≡_, refl, sym, _∙_, ap}
-use mathlib.Core.Bool.{Bool, true, false, _&&_, _||_}
-use mathlib.Core.List.{List, [], _∷_, map}
+use mathlib.Core.Bool.{true, false, _||_}
+use mathlib.Core.List.{List, _∷_, map}
 use borrow.Author.Tests.{eq-eqb, ne-eqb, le-leb, lt-leb}
 use lib.Dec.{leb, eqb}
 use lib.ListN.{length, drop, getD}
-use lib.Seq.{drop-drop}
 use Rattle.kinds.specs.Sizes.{Who}
 use Rattle.command.specs.Words.{wordAt}
 use Rattle.command.specs.Entry.{Entry}
@@ -16,7 +14,6 @@ use Rattle.state.specs.declared.Head.{Head}
 use Rattle.state.specs.State.{Kept}
 use Rattle.state.specs.Image.{head-size, row-size, state-size, rowsIn, entryOf, keptIn, stateIn}
 use Rattle.state.specs.Head.{headIn}
-use Rattle.state.proofs.LegalLaws.{rowsOf-length}
 use Rattle.state.proofs.PartLaws.{wordAt-drop}
 use Rattle.rules.specs.Events.{termAt}
 use Rattle.rules.specs.Receive.{fits}

@@ -1,9 +1,9 @@
 -- Laws of zeros written one after another. Assumes nothing.
-use Prim.Native.Nat.{ℕ, _+_, _-_, _≤_, _<_}
+use Prim.Native.Nat.{ℕ, _+_, _-_, _≤_}
 use native.Mathlib.Omega.{arith}
-use mathlib.Core.Path.{_≡_, refl, sym, _∙_, ap}
-use mathlib.Core.List.{List, [], _∷_, _++_}
-use lib.ListN.{length, set, replicate, length-replicate, replicate-append-replicate}
+use mathlib.Core.Path.{_≡_}
+use mathlib.Core.List.{List, [], _∷_}
+use lib.ListN.{set, replicate, length-replicate, replicate-append-replicate}
 use lib.Seq.{sets}
 use Rattle.command.proofs.WordsLaws.{sets-append}
 

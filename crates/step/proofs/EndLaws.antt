@@ -1,17 +1,17 @@
 -- Laws of append-yes: what the rule says by what the code tests, and what a recorded end makes of the bytes. Assumes nothing.
-use Prim.Native.Nat.{ℕ, zero, suc, _+_, _-_, _≤_, _<_, max}
+use Prim.Native.Nat.{ℕ, zero, suc, _-_, max}
 use native.Mathlib.Omega.{arith}
 use mathlib.Core.Path.{_≡_, refl, sym, _∙_, ap}
-use mathlib.Core.Bool.{Bool, true, false}
+use mathlib.Core.Bool.{true, false}
 use mathlib.Core.List.{List, [], _∷_, map}
 use mathlib.Core.Option.{Option, none}
 use lib.Dec.{ltb}
-use lib.ListN.{length, getD, set}
+use lib.ListN.{getD, set}
 use lib.Seq.{sets}
 use Rattle.kinds.specs.declared.Place.{Place}
 use Rattle.kinds.specs.Of.{place}
 use Rattle.kinds.specs.Sizes.{Who}
-use Rattle.message.specs.Message.{Message, append-yes}
+use Rattle.message.specs.Message.{Message}
 use Rattle.state.specs.declared.Head.{Head}
 use Rattle.state.specs.State.{Kept, Lost, follower, candidate, leader, State}
 use Rattle.state.specs.Legal.{legalState}
@@ -22,7 +22,7 @@ use Rattle.rules.specs.Majority.{majorityPlace}
 use Rattle.rules.specs.Receive.{Effect, idle, effect, recorded, heardEnd}
 use Rattle.rules.proofs.Fair.{Fine, idles, does, IsPeer}
 use Rattle.rules.proofs.EndLaws.{heardEnd-fine}
-use Rattle.step.specs.Promise.{Ready, HearsEnd, isEffect, ruledBy, saidBy, Ruled}
+use Rattle.step.specs.Promise.{HearsEnd, isEffect, ruledBy, saidBy, Ruled}
 use Rattle.step.specs.Heads.{confirming}
 use Rattle.step.proofs.PromiseLaws.{ready-legal, ready-head, ready-role, ready-chosen, ready-confirmed, ready-who, ready-headed}
 use Rattle.step.proofs.HeadsLaws.{places-set}

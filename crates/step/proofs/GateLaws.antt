@@ -1,15 +1,13 @@
 -- Laws of the tests before every event: the gate's answer by what the code tests, and what the step is behind each answer. Assumes nothing.
 use Prim.Native.Nat.{ℕ, _≤_, _<_}
-use native.Mathlib.Omega.{arith}
-use mathlib.Core.Path.{_≡_, refl, sym, _∙_, ap}
+use mathlib.Core.Path.{_≡_, refl}
 use mathlib.Core.Bool.{Bool, true, false, cond, _&&_}
 use mathlib.Core.List.{List}
 use mathlib.Core.Option.{Option, none, some}
 use borrow.Author.Tests.{lt-ltb, le-ltb, eq-eqb, ne-eqb}
-use lib.Dec.{ltb, eqb}
+use lib.Dec.{eqb}
 use lib.ListN.{length}
 use Rattle.kinds.specs.Sizes.{Who, text-room}
-use Rattle.state.specs.State.{Kept, State}
 use Rattle.state.specs.Legal.{legalKept, legalState}
 use Rattle.state.specs.Image.{state-size, image, keptIn, stateIn, same, readState, readKept}
 use Rattle.state.specs.Check.{isSome}

@@ -1,19 +1,17 @@
 -- Laws of gathering where the rows lie: what is written is what 01's rule gathers. Assumes nothing.
-use Prim.Native.Nat.{ℕ, zero, suc, _+_, _-_, _*_, _^_, _≤_, _<_}
+use Prim.Native.Nat.{ℕ, _+_, _-_, _*_, _^_, _≤_, _<_}
 use native.Mathlib.Omega.{arith}
 use mathlib.Core.Path.{_≡_, refl, sym, _∙_, ap}
-use mathlib.Core.Bool.{Bool, true, false, cond, _&&_}
+use mathlib.Core.Bool.{Bool, true, false, cond}
 use mathlib.Core.List.{List, [], _∷_, _++_, map, append-assoc, append-nil}
 use lib.Dec.{ltb}
 use lib.ListN.{length, length-append, length-map}
 use lib.Seq.{sets}
 use Rattle.kinds.specs.Sizes.{limit}
-use Rattle.command.specs.Words.{wordAt}
 use Rattle.command.specs.Entry.{Entry}
 use Rattle.state.specs.State.{Pair}
 use Rattle.state.specs.Image.{head-size, row-size, row}
-use Rattle.state.specs.Table.{Row, rowBytes, pairRow, table}
-use Rattle.state.proofs.TableLaws.{rowOf}
+use Rattle.state.specs.Table.{Row, pairRow, table}
 use Rattle.rules.specs.Receive.{gather}
 use Rattle.step.specs.Gather.{gatheredInto}
 use Rattle.step.proofs.RowLaws.{row-last, row-over, row-number-at}

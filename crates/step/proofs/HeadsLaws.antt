@@ -1,15 +1,12 @@
 -- Laws of the heads that events make: each is the head of the state that 01's rule gives. Assumes nothing.
-use Prim.Native.Nat.{ℕ, zero, suc, _+_, _-_, _≤_, _<_}
-use native.Mathlib.Omega.{arith}
-use mathlib.Core.Path.{_≡_, refl, sym, _∙_, ap}
-use mathlib.Core.List.{List, [], _∷_, _++_, map}
+use Prim.Native.Nat.{ℕ, zero, suc, _+_, _-_}
+use mathlib.Core.Path.{_≡_, refl}
+use mathlib.Core.List.{List, [], _∷_, map}
 use lib.ListN.{length, set, length-append}
-use Rattle.kinds.specs.declared.Place.{Place}
 use Rattle.kinds.specs.Of.{place, term}
 use Rattle.kinds.specs.Sizes.{Who}
 use Rattle.command.specs.Command.{Command}
-use Rattle.state.specs.declared.Head.{Head}
-use Rattle.state.specs.State.{Kept, Lost, follower, candidate, leader, State}
+use Rattle.state.specs.State.{Kept, Lost, follower, leader}
 use Rattle.state.specs.Image.{roleOf, votersOf, gatheredOf, confirmedOf}
 use Rattle.state.specs.Head.{headOf}
 use Rattle.rules.specs.Events.{withTerm, started, withEntry, leads}

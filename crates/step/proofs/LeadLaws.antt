@@ -1,18 +1,17 @@
 -- Laws of a candidate that leads: its gathered rows take the present term and join the log. Assumes nothing.
-use Prim.Native.Nat.{ℕ, zero, suc, _+_, _-_, _*_, _≤_, _<_}
+use Prim.Native.Nat.{ℕ, _+_, _-_, _*_, _≤_}
 use native.Mathlib.Omega.{arith}
 use mathlib.Core.Path.{_≡_, refl, sym, _∙_, ap}
 use mathlib.Core.List.{List, [], _∷_, _++_, map, map-append, append-assoc, append-nil}
-use lib.ListN.{length, take, drop, getD, replicate, length-append, length-map, length-replicate, length-set}
-use lib.Seq.{sets, take-at, drop-at, getD-append-seam}
+use lib.ListN.{length, getD, replicate, length-append, length-map, length-set}
+use lib.Seq.{sets, getD-append-seam}
 use Rattle.kinds.specs.Of.{place}
 use Rattle.kinds.specs.Sizes.{Who, hubs-most, limit}
 use Rattle.command.specs.Words.{word}
 use Rattle.command.specs.Entry.{Entry}
 use Rattle.command.proofs.WordsLaws.{word-length}
-use Rattle.state.specs.declared.Head.{Head}
-use Rattle.state.specs.State.{Kept, Pair, Lost, leader, State}
-use Rattle.state.specs.Image.{head-size, row-size, roleOf, votersOf, gatheredOf, confirmedOf, bytesOf, image}
+use Rattle.state.specs.State.{Kept, Pair, Lost, State}
+use Rattle.state.specs.Image.{head-size, row-size, roleOf, votersOf, gatheredOf, confirmedOf, image}
 use Rattle.state.specs.Head.{bytesOfHead, headOf}
 use Rattle.state.specs.Table.{Row, rowBytes, entryRow, pairRow, rowsOf, table}
 use Rattle.state.proofs.ListLaws.{sets-skip, sets-front}

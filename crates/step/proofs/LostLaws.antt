@@ -2,20 +2,20 @@
 use Prim.Native.Nat.{ℕ, _+_, _-_, _*_, _≤_, _<_}
 use native.Mathlib.Omega.{arith}
 use mathlib.Core.Path.{_≡_, refl, sym, _∙_, ap}
-use mathlib.Core.Bool.{Bool, true, false}
-use mathlib.Core.List.{List, [], _∷_, _++_, map, append-nil}
-use mathlib.Core.Option.{Option, none, some}
+use mathlib.Core.Bool.{true, false}
+use mathlib.Core.List.{List, [], map, append-nil}
+use mathlib.Core.Option.{some}
 use borrow.Author.Tests.{ne-eqb}
 use lib.ListN.{length, take, drop, replicate, length-map}
 use lib.Seq.{sets, take-at}
-use Rattle.kinds.specs.Of.{place, term}
+use Rattle.kinds.specs.Of.{term}
 use Rattle.kinds.specs.Sizes.{Who, term-most, limit}
 use Rattle.command.specs.Words.{wordAt}
 use Rattle.command.proofs.WordsLaws.{Bytes}
 use Rattle.state.specs.declared.Head.{Head}
 use Rattle.state.specs.State.{Kept, Lost, follower, candidate, leader, State}
-use Rattle.state.specs.Legal.{legalKept, legalState}
-use Rattle.state.specs.Image.{head-size, row-size, state-size, gatheredOf, votersOf, confirmedOf, roleOf, image, entryOf, rowsIn, keptIn, stateIn, readKept}
+use Rattle.state.specs.Legal.{legalState}
+use Rattle.state.specs.Image.{head-size, row-size, state-size, gatheredOf, votersOf, confirmedOf, roleOf, image, entryOf, keptIn, stateIn, readKept}
 use Rattle.state.specs.Head.{headIn, bytesOfHead, headOf}
 use Rattle.state.specs.Table.{Row, entryRow, pairRow, rowsOf}
 use Rattle.state.specs.Check.{isSome}

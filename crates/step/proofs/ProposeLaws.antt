@@ -1,18 +1,15 @@
 -- Laws of the event propose: each of its outcomes by what the code tests, and what an added entry makes of the bytes. Assumes nothing.
 use Prim.Native.Nat.{ℕ, _+_, _-_, _*_, _≤_, _<_}
 use native.Mathlib.Omega.{arith}
-use native.Mathlib.Nat.{add-zero}
 use mathlib.Core.Path.{_≡_, refl, sym, _∙_, ap}
-use mathlib.Core.Bool.{Bool, true, false, _&&_}
+use mathlib.Core.Bool.{true, false}
 use mathlib.Core.List.{List, [], _∷_, _++_, map, map-append, append-nil}
 use mathlib.Core.Option.{Option, none, some}
 use borrow.Author.Tests.{le-leb, lt-leb}
-use lib.Dec.{leb}
-use lib.ListN.{length, take, drop, length-append, length-map, drop-of-length-le}
+use lib.ListN.{length, take, drop, length-map, drop-of-length-le}
 use lib.Seq.{sets, take-all}
 use Rattle.kinds.specs.Sizes.{Who, limit}
-use Rattle.command.specs.Words.{part}
-use Rattle.command.specs.Command.{Command, command-size, commandOf, legalCommand}
+use Rattle.command.specs.Command.{Command, commandOf}
 use Rattle.command.specs.Proposal.{proposable, readProposal}
 use Rattle.command.specs.Answers.{isCommand}
 use Rattle.command.proofs.WordsLaws.{Bytes, part-last, wordAt-below}
@@ -22,7 +19,7 @@ use Rattle.state.specs.State.{Kept, Lost, follower, candidate, leader, State}
 use Rattle.state.specs.Legal.{legalState}
 use Rattle.state.specs.Image.{head-size, row-size, roleOf, gatheredOf, confirmedOf, bytesOf, image, stateIn}
 use Rattle.state.specs.Head.{headIn, bytesOfHead, headOf}
-use Rattle.state.specs.Table.{Row, rowBytes, entryRow, pairRow, rowsOf}
+use Rattle.state.specs.Table.{Row, rowBytes, entryRow, rowsOf}
 use Rattle.rules.specs.Outcome.{Next, done, goes, refuses, wrong-role, bad-command, log-full}
 use Rattle.rules.specs.Events.{leads, withEntry, proposeLeading, propose}
 use Rattle.rules.specs.Happens.{to-propose, happens, legalAt}

@@ -1,24 +1,24 @@
 -- Laws of the whole call: what the step is behind each answer of the gate, for each event. Assumes nothing.
-use Prim.Native.Nat.{ℕ, zero, suc, _+_, _*_, _≤_, _<_}
+use Prim.Native.Nat.{ℕ, zero, suc, _≤_, _<_}
 use native.Mathlib.Omega.{arith}
-use mathlib.Core.Path.{_≡_, refl, sym, _∙_, ap}
+use mathlib.Core.Path.{_≡_, refl, sym, _∙_}
 use mathlib.Core.Bool.{Bool, true, false, cond, _&&_}
 use mathlib.Core.List.{List}
 use mathlib.Core.Option.{Option, none, some}
 use borrow.Author.Tests.{ne-eqb, leb-true, ltb-false}
-use lib.Dec.{leb, ltb, eqb}
+use lib.Dec.{leb, ltb}
 use lib.ListN.{length}
 use Rattle.kinds.specs.Sizes.{Who, between, isSize, isHub, text-room}
 use Rattle.kinds.proofs.BetweenLaws.{between-true}
 use Rattle.command.specs.Proposal.{readProposal}
 use Rattle.message.specs.Text.{read}
 use Rattle.state.specs.State.{Kept, State}
-use Rattle.state.specs.Image.{image, keptIn, stateIn, readState, readKept}
+use Rattle.state.specs.Image.{image, keptIn, stateIn, readKept}
 use Rattle.state.specs.Check.{isSome}
 use Rattle.state.proofs.BoolLaws.{and-first, and-second}
-use Rattle.rules.specs.Outcome.{Next, done, not-known, bad-state, short-output}
+use Rattle.rules.specs.Outcome.{done, not-known, bad-state, short-output}
 use Rattle.rules.specs.Events.{start, propose, send, restart}
-use Rattle.rules.specs.Step.{Call, Answer, Event, start-event, propose-event, send-event, restart-event, receive-event, eventOf, refusal, answer, receiving, acting, keptAlone, seen, atState, atEvent, stepOf}
+use Rattle.rules.specs.Step.{Call, Event, start-event, propose-event, send-event, restart-event, receive-event, eventOf, refusal, receiving, acting, keptAlone, seen, atState, atEvent, stepOf}
 use Rattle.step.specs.Promise.{Answers, Ready, Gives, Quiet}
 use Rattle.step.specs.Gate.{isKnown, isFit, gate}
 use Rattle.step.proofs.GateLaws.{none-when, readState-some, readKept-some, fit-restart, fit-other}

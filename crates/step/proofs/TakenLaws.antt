@@ -1,18 +1,17 @@
 -- Laws of an append that fits, at a follower of its term: the log stays and only the head is written, or rows from prev on are written first. Assumes nothing.
-use Prim.Native.Nat.{ℕ, zero, suc, _+_, _-_, _*_, _≤_, _<_, max}
+use Prim.Native.Nat.{ℕ, zero, suc, _+_, _-_, _≤_, max}
 use native.Mathlib.Omega.{arith}
-use mathlib.Core.Path.{_≡_, refl, sym, _∙_, ap}
-use mathlib.Core.Bool.{Bool, true, false, cond, _&&_}
-use mathlib.Core.List.{List, [], _∷_, _++_, map, map-append, append-assoc, append-nil}
+use mathlib.Core.Path.{_≡_, refl}
+use mathlib.Core.Bool.{true, false, _&&_}
+use mathlib.Core.List.{List, [], _∷_, _++_, map, map-append, append-nil}
 use lib.Dec.{leb, eqb}
-use lib.ListN.{length, take, drop, length-append, length-map, drop-of-length-le}
+use lib.ListN.{length, take, drop, length-map, drop-of-length-le}
 use Rattle.kinds.specs.Of.{place}
 use Rattle.command.specs.Entry.{Entry}
-use Rattle.state.specs.declared.Head.{Head}
-use Rattle.state.specs.State.{Kept, Lost, follower, State}
+use Rattle.state.specs.State.{Kept, follower, State}
 use Rattle.state.specs.Image.{roleOf, votersOf, gatheredOf, confirmedOf}
 use Rattle.state.specs.Head.{headOf}
-use Rattle.state.specs.Table.{Row, entryRow, rowsOf}
+use Rattle.state.specs.Table.{entryRow, rowsOf}
 use Rattle.rules.specs.Receive.{replaced, taken}
 use Rattle.step.specs.Heads.{taking}
 

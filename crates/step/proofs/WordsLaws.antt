@@ -1,13 +1,13 @@
 -- Laws of commands and rows by their words. Assumes nothing.
-use Prim.Native.Nat.{ℕ, zero, suc, _+_, _-_, _*_, _/_, _%_, _≤_, _<_}
+use Prim.Native.Nat.{ℕ, zero, suc, _+_, _-_, _/_, _%_, _≤_, _<_}
 use native.Mathlib.Omega.{arith}
 use native.Mathlib.Nat.{div-add-mod'}
 use mathlib.Core.Path.{_≡_, refl, sym, _∙_, ap}
-use mathlib.Core.List.{List, [], _∷_, _++_, append-assoc}
+use mathlib.Core.List.{List, _++_, append-assoc}
 use lib.ListN.{length}
 use lib.Seq.{sets}
-use Rattle.command.specs.Words.{word, wordAt, part, signed, unsigned}
-use Rattle.command.specs.Command.{Command, command-size, commandBytes, commandOf}
+use Rattle.command.specs.Words.{word, wordAt, part}
+use Rattle.command.specs.Command.{command-size, commandBytes, commandOf}
 use Rattle.command.specs.Answers.{ofWords}
 use Rattle.command.proofs.WordsLaws.{Bytes, word-join, word-then, wordAt-part, part-length, part-bytes, wordAt-below, unsigned-signed}
 use Rattle.command.proofs.AnswersLaws.{ofWords-of}

@@ -1,8 +1,7 @@
 -- The tests that stand before every event, in document 01's order. Assumes nothing.
 use Prim.Native.Nat.{ℕ}
-use mathlib.Core.Bool.{Bool, true, false, cond, _&&_, _||_}
+use mathlib.Core.Bool.{Bool, cond, _&&_}
 use mathlib.Core.List.{List}
-use mathlib.Core.Option.{Option, none, some}
 use lib.Dec.{ltb, eqb}
 use lib.ListN.{length}
 use Rattle.kinds.specs.Sizes.{Who, between, isSize, isHub, text-room}

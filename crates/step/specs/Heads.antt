@@ -1,7 +1,6 @@
 -- What the events make of the head of a state. Assumes nothing.
 use Prim.Native.Nat.{ℕ, _+_, _-_}
 use mathlib.Core.Bool.{false, true}
-use mathlib.Core.List.{List}
 use lib.ListN.{replicate, set}
 use Rattle.kinds.specs.declared.Term.{Term}
 use Rattle.kinds.specs.declared.Place.{Place}

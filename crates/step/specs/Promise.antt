@@ -12,7 +12,6 @@ use Rattle.message.specs.Message.{Message, vote-yes, append, append-yes}
 use Rattle.message.specs.Legal.{legalBody}
 use Rattle.message.specs.Walk.{entriesFrom, Lie}
 use Rattle.state.specs.declared.Head.{Head}
-use Rattle.state.specs.State.{State}
 use Rattle.state.specs.Image.{image, stateIn, readState}
 use Rattle.state.specs.Head.{headIn}
 use Rattle.rules.specs.Outcome.{Next, done}

@@ -1,6 +1,5 @@
 -- `kritnamon::put_fields` meets its contract: the eight numbers, one after another. Assumes nothing.
 use native.Mathlib.Omega.{arith}
-use mathlib.Core.Path.{sym, _∙_, ap}
 use lib.ListN.{length-set}
 use borrow.Author.Needs.{needs}
 use Rattle.kritnamon.specs.Numbers.{kindIn, ownIn}

@@ -1,10 +1,8 @@
 -- `step::add_entry` meets its contract: a row behind the log, then the head of a leader with one entry more. Assumes nothing.
-use Prim.Native.Nat.{ℕ, _+_, _*_, _≤_, _<_}
-use mathlib.Core.Path.{_≡_, sym, _∙_, ap}
+use mathlib.Core.Path.{sym, _∙_, ap}
 use native.Mathlib.Omega.{arith}
 use lib.ListN.{length}
 use borrow.Author.Needs.{needs}
-use Rattle.kinds.specs.Sizes.{limit}
 use Rattle.command.proofs.AnswersLaws.{isCommand-length}
 use Rattle.state.specs.declared.Head.{Head}
 use Rattle.state.specs.Image.{state-size}

@@ -1,10 +1,7 @@
 -- `step::clear_gathered` meets its contract: as many rows as are gathered, from the log's end on. Assumes nothing.
-use Prim.Native.Nat.{ℕ, _+_, _-_, _*_}
-use mathlib.Core.Path.{_≡_, sym, _∙_, ap}
-use mathlib.Core.List.{List}
+use Prim.Native.Nat.{_+_, _-_, _*_}
+use mathlib.Core.Path.{_≡_, _∙_}
 use native.Mathlib.Omega.{arith}
-use lib.ListN.{replicate}
-use lib.Seq.{sets}
 use borrow.Author.Needs.{needs}
 use Rattle.state.specs.Image.{head-size, row-size, state-size}
 use Rattle.state.proofs.LegalLaws.{limit-fits}

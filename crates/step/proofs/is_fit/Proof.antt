@@ -1,8 +1,6 @@
 -- `step::is_fit` meets its contract: what is checked is what the event needs. Assumes nothing.
-use mathlib.Core.Path.{_≡_, sym, _∙_, ap}
-use lib.ListN.{length}
+use mathlib.Core.Path.{sym, _∙_, ap}
 use borrow.Author.Needs.{needs}
-use Rattle.kinds.specs.Sizes.{Who}
 use Rattle.state.specs.Image.{readState}
 use Rattle.state.specs.Check.{isSome, who}
 use Rattle.step.proofs.GateLaws.{fit-restart, fit-other}

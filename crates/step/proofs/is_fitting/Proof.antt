@@ -1,7 +1,5 @@
 -- `step::is_fitting` meets its contract. Assumes nothing.
-use mathlib.Core.Path.{_≡_, sym, _∙_, ap}
-use mathlib.Core.Bool.{_||_}
-use lib.Dec.{eqb, leb}
+use mathlib.Core.Path.{sym, _∙_}
 use borrow.Author.Needs.{needs}
 use borrow.Author.Tests.{not-true, not-false}
 use Rattle.step.proofs.AppendLaws.{tested-length, tested-ballot, tested-term, fits-not, fits-if}

@@ -1,6 +1,6 @@
 -- `step::is_more` meets its contract. Assumes nothing.
 use Prim.Native.Nat.{ℕ, _-_}
-use mathlib.Core.Path.{_≡_, sym, _∙_, ap}
+use mathlib.Core.Path.{_∙_, ap}
 use lib.Dec.{ltb}
 use lib.ListN.{getD}
 use borrow.Author.Needs.{needs}

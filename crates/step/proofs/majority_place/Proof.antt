@@ -1,8 +1,7 @@
 -- `step::majority_place` meets its contract. The loop's invariant: the largest of all places is the largest of those up to `p`.
 -- The measure is `p`. Assumes nothing.
-use Prim.Native.Nat.{ℕ, _-_}
-use mathlib.Core.Path.{_≡_, refl, sym, _∙_, ap}
-use native.Mathlib.Omega.{arith}
+use Prim.Native.Nat.{_-_}
+use mathlib.Core.Path.{_≡_, sym, _∙_, ap}
 use borrow.Author.Needs.{needs}
 use mathlib.Core.Bool.{true, false}
 use Rattle.kinds.specs.declared.Place.{Place}

@@ -1,13 +1,9 @@
 -- `step::propose_at` meets its contract: each `return` is one outcome of the event. Assumes nothing.
-use Prim.Native.Nat.{ℕ, _≤_, _<_}
-use mathlib.Core.Path.{_≡_, sym, _∙_, ap}
+use mathlib.Core.Path.{sym, _∙_}
 use native.Mathlib.Omega.{arith}
-use lib.ListN.{length}
 use borrow.Author.Needs.{needs}
 use borrow.Author.Tests.{not-true, not-false}
-use Rattle.state.specs.declared.Head.{Head}
-use Rattle.state.specs.Image.{stateIn}
-use Rattle.step.proofs.PromiseLaws.{ready-long, refused-quiet, done-quiet}
+use Rattle.step.proofs.PromiseLaws.{ready-long}
 use Rattle.step.proofs.ProposeLaws.{proposed-wrong-role, proposed-bad, proposed-full, proposed-done}
 use Rattle.step.proofs.propose_at.Statement.{statement}
 use Rattle.step.proofs.propose_at.Tie as tie

@@ -1,11 +1,11 @@
 -- `step::renumber` meets its contract. The loop's invariant: the rows from `at` on, `left` of them, still take their number. The measure is `left`.
 -- Assumes nothing.
-use Prim.Native.Nat.{ℕ, suc, _+_, _-_, _*_, _≤_}
+use Prim.Native.Nat.{ℕ, _+_, _-_, _*_, _≤_}
 use mathlib.Core.Path.{_≡_, refl, sym, _∙_, ap}
 use mathlib.Core.List.{List}
 use native.Mathlib.Omega.{arith}
 use lib.ListN.{length}
-use lib.Seq.{sets, length-sets}
+use lib.Seq.{length-sets}
 use borrow.Author.Needs.{needs}
 use Rattle.command.specs.Words.{word}
 use Rattle.step.specs.Words.{renumbered}

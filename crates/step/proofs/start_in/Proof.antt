@@ -1,5 +1,5 @@
 -- `step::start_in` meets its contract: the gathered rows are cleared, then a candidate's head is written. Assumes nothing.
-use mathlib.Core.Path.{_≡_, sym, _∙_, ap}
+use mathlib.Core.Path.{_∙_, ap}
 use native.Mathlib.Omega.{arith}
 use borrow.Author.Needs.{needs}
 use Rattle.state.specs.declared.Head.{Head}

@@ -1,6 +1,6 @@
 -- `step::term_of` meets its contract: the number of the place's row. Assumes nothing.
 use Prim.Native.Nat.{ℕ, _-_, _+_, _*_}
-use mathlib.Core.Path.{_≡_, sym, _∙_, ap}
+use mathlib.Core.Path.{_≡_, _∙_, ap}
 use native.Mathlib.Omega.{arith}
 use borrow.Author.Needs.{needs}
 use Rattle.kinds.specs.Of.{term}
