@@ -1,5 +1,6 @@
-// One hub's step over lent bytes: the tests before every event, then the event, each as document 01 has it. The head of a state is read once into a
-// struct; the log and the gathered entries stay in the lent bytes.
+// What the events of a hub's step share, over lent bytes: the tests before every event, and what becomes of the state. Propose, restart and append-yes stand
+// here whole; what writes a message or takes entries from one has a crate of its own above. The head of a state is read into a struct; the log and the
+// gathered entries stay in the lent bytes.
 ghost use mathlib.Core.Path.{_≡_};
 ghost use mathlib.Core.Bool.{true, false, cond};
 ghost use mathlib.Core.List.{map};

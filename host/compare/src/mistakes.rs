@@ -9,7 +9,7 @@ use crate::call::{Call, Step, independent};
 use crate::view::{Kind, LOST, Role, State, confirmed_at, put_number};
 
 /// Each scenario with its mistake; some scenarios are about several.
-pub const MISTAKES: [(&str, Step); 13] = [
+pub const MISTAKES: [(&str, Step); 14] = [
     ("append-at-leader", steps_down),
     ("divergent-logs", cuts_longer_log),
     ("divergent-logs", keeps_lesser_ballot),
@@ -23,6 +23,7 @@ pub const MISTAKES: [(&str, Step); 13] = [
     ("repeated-vote", counts_vote_twice),
     ("second-candidate", votes_at_own_term),
     ("smaller-term", votes_at_own_term),
+    ("two-ballots", keeps_lesser_ballot),
 ];
 
 /// Whoever sends an append leads, so the hub does not.

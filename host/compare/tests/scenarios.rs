@@ -5,7 +5,7 @@ use compare::mistakes::MISTAKES;
 use compare::scenario::play;
 use std::path::{Path, PathBuf};
 
-const NAMES: [&str; 11] = [
+const NAMES: [&str; 12] = [
     "append-at-leader",
     "divergent-logs",
     "end-beyond-log",
@@ -17,6 +17,7 @@ const NAMES: [&str; 11] = [
     "repeated-vote",
     "second-candidate",
     "smaller-term",
+    "two-ballots",
 ];
 
 fn folder() -> PathBuf {
