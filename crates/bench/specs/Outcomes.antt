@@ -1,4 +1,4 @@
--- An example of every row of document 01's table of outcomes, of both stale replies, and of the four shortcuts that break a home.
+-- An example of every row of the table of outcomes (rule R32), of both stale replies (R34), and of the four shortcuts that break a home (R40).
 -- The case of a row is the outcome that it is an example of. Assumes nothing.
 use Prim.Native.Nat.{ℕ}
 use mathlib.Core.Bool.{Bool, true, false}
@@ -179,6 +179,6 @@ examples =
     ∷ refused 2 1 1 (following (kept 1 1 0 (record { term = 1; command = buzzing (negsuc 0) 0 } ∷ []))) [] 2
     ∷ []
 
--- Every example comes out as 01's table has it.
+-- Every example comes out as the table has it.
 abbrev pub ExamplesHold : Type 0
 ExamplesHold = AllHold examples

@@ -1,5 +1,5 @@
--- What reading and writing a command alone answer, in document 01's numbers: "Read or written alone, an illegal command is 10, too short an
--- output (16 bytes for a command) 3". Assumes nothing.
+-- What reading and writing a command alone answer (rule R35): an illegal command is 10, too short an output, or too few lent numbers, 3.
+-- Assumes nothing.
 use Prim.Native.Nat.{ℕ, _+_, _/_, _%_}
 use mathlib.Core.Bool.{Bool, cond, _&&_}
 use mathlib.Core.List.{List, [], _∷_, _++_}
@@ -46,11 +46,11 @@ numbersAt at l =
 unfoldable pub isCommand : List ℕ → Bool
 isCommand l = eqb (length l) command-size && legalCommand (commandOf l)
 
--- A legal command's motion; otherwise the answer is 01's outcome 10.
+-- A legal command's motion; otherwise the answer is outcome 10.
 unfoldable pub readAs : List ℕ → Read
 readAs l = cond (isCommand l) (Legal (motionOf (commandOf l))) Illegal
 
--- The outcome that 01 gives each case of the answer.
+-- The outcome of each case of the answer.
 abbrev pub outcomeOf : Read → ℕ
 outcomeOf (Legal m) = done
 outcomeOf Illegal = bad-command

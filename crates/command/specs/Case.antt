@@ -1,5 +1,5 @@
 -- "A command is a stop, a buzz that carries its gain, or a ramp that carries its two gains": the code's enum, and for each of its cases
--- document 01's number and values. Assumes nothing.
+-- the number and values of rule R7. Assumes nothing.
 use Prim.Native.Nat.{ℕ, zero, suc}
 use lib.Ieee.{binary32, toBits, ofBits}
 use Rattle.command.specs.Command.{Command}

@@ -1,4 +1,4 @@
--- Document 01, "Commands": the five numbers of a command, which commands are legal, and the 16 bytes of each. Assumes nothing.
+-- Commands (rules R6 to R9): the five numbers of a command, which commands are legal, and the 16 bytes of each. Assumes nothing.
 use Prim.Native.Nat.{ℕ}
 use mathlib.Core.Bool.{Bool, _&&_, _||_}
 use mathlib.Core.List.{List, [], _++_}

@@ -21,7 +21,7 @@ const FIELDS: usize = 5;
 const GAIN_MOST: u32 = 0x3f80_0000;
 // The longest duration, in ms.
 const DURATION_MOST: u32 = 600_000;
-// Document 01's outcomes.
+// Outcomes (rule R32).
 const DONE: u32 = 0;
 
 const SHORT_OUTPUT: u32 = 3;
@@ -41,7 +41,7 @@ pub struct Motion {
     pub case: Case,
 }
 
-// What reading a command finds. Illegal is document 01's outcome 10.
+// What reading a command finds. Illegal is outcome 10.
 pub enum Read {
     Legal(Motion),
     Illegal,

@@ -1,4 +1,4 @@
--- What the test `between` of document 01's ranges says as an order of numbers, and back. Assumes nothing.
+-- What the test `between` says as an order of numbers, and back. Assumes nothing.
 use Prim.Native.Nat.{ℕ, _≤_, _<_}
 use mathlib.Core.Bool.{Bool, true, false, true≢false, _&&_}
 use mathlib.Core.Path.{_≡_, refl, sym, _∙_}

@@ -1,4 +1,4 @@
--- Document 01, "Outcomes": their numbers by name, in the order in which they are checked. Assumes nothing.
+-- The outcomes (rule R32): their numbers by name, in the order in which they are checked. Assumes nothing.
 use Prim.Native.Nat.{ℕ}
 
 -- Done.

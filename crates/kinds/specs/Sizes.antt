@@ -1,5 +1,5 @@
--- Document 01, "Sizes a home may have": the group, its hubs and majority, terms, the log's limit, the sizes of texts.
--- Every number of that section stands here and nowhere else. Assumes nothing.
+-- The sizes a home may have (rules R1 to R5 of docs/RULES.md): the group, its hubs and majority, terms, the log's limit, the sizes of texts.
+-- Every number of those rules stands here and nowhere else. Assumes nothing.
 use Prim.Native.Nat.{ℕ, _+_, _/_}
 use mathlib.Core.Bool.{Bool, _&&_, _||_}
 use lib.Dec.{leb, eqb}

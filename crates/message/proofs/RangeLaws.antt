@@ -1,5 +1,5 @@
--- Reading by ranges accepts the same texts as reading and then asking whether the message is legal, with the same messages: every rule of
--- document 01 on a message's fields is a range of the next number, given the numbers before it. Assumes nothing.
+-- Reading by ranges accepts the same texts as reading and then asking whether the message is legal, with the same messages: what is
+-- legal of a message's fields (rule R30) is, for each, a range of the next number, given the numbers before it. Assumes nothing.
 use Prim.Native.Nat.{ℕ, zero, suc}
 use mathlib.Core.Path.{_≡_, refl, sym, _∙_, ap}
 use mathlib.Core.Bool.{Bool, true, false, _&&_, and-assoc}

@@ -1,4 +1,4 @@
--- The rules of document 01 on the fields of a message are ranges: a message is legal exactly if each of its numbers lies in the range that
+-- The rules on the fields of a message (R30) are ranges: a message is legal exactly if each of its numbers lies in the range that
 -- the numbers before it fix, and its entries are legal from the range's low end on. Assumes nothing.
 use Prim.Native.Nat.{ℕ, zero, suc, _-_, _≤_, max}
 use native.Mathlib.Omega.{arith}

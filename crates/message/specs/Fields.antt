@@ -1,11 +1,11 @@
--- The fields of each type of message in document 01's order: one table for all that writes or reads messages. Assumes nothing.
+-- The fields of each type of message in the order of rule R28: one table for all that writes or reads messages. Assumes nothing.
 use Prim.Native.Nat.{ℕ}
 use mathlib.Core.List.{List, [], _∷_}
 use lib.ListN.{length, getD}
 use Rattle.command.specs.Entry.{Entry}
 use Rattle.message.specs.Message.{Message, Body, vote-request, vote-yes, vote-no, append, append-yes, append-no}
 
--- The six types, in 01's order.
+-- The six types, in the order of rule R28.
 pub data MessageType : Type 0 where
   type=vote-request : MessageType
   type=vote-yes : MessageType

@@ -1,4 +1,4 @@
--- Document 01, "Also required": what is legal of a message's fields, in whatever form it is written. Assumes nothing.
+-- What is legal of a message's fields (rule R30), in whatever form it is written. Assumes nothing.
 use Prim.Native.Nat.{ℕ, _+_, max}
 use mathlib.Core.Bool.{Bool, true, Bool·beq, _&&_, _||_, not}
 use lib.Dec.{leb, ltb, eqb}

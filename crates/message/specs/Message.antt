@@ -1,4 +1,4 @@
--- A message between hubs, of one of document 01's six types. How it is written is no matter of this file. Assumes nothing.
+-- A message between hubs, of one of six types (rule R28). How it is written is no matter of this file. Assumes nothing.
 use Prim.Native.Nat.{ℕ}
 use mathlib.Core.List.{List, []}
 use Rattle.command.specs.Entry.{Entry}

@@ -1,4 +1,4 @@
--- Document 01, "Message text": how a message is written as lines, how a text is read, and the part of a text that holds the entry lines.
+-- The text of a message (rules R27, R28 and R31): how a message is written as lines, how a text is read, and the part of a text that holds the entry lines.
 -- Assumes nothing.
 use Prim.Native.Nat.{ℕ, zero, suc, _-_}
 use mathlib.Core.Bool.{cond}

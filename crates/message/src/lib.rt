@@ -1,4 +1,4 @@
-// Messages between hubs, as document 01 writes them: read from a lent text, where their entries stay; and entry lines written into a
+// Messages between hubs, as rules R27 to R31 have them: read from a lent text, where their entries stay; and entry lines written into a
 // lent buffer from rows of 20 bytes, as a state's table has them.
 ghost use mathlib.Core.Path.{_≡_};
 ghost use mathlib.Core.Bool.{cond};
@@ -82,7 +82,7 @@ pub struct Fields {
     pub body: Body,
 }
 
-// What reading a message finds: its fields, and where its entry lines begin. Refused is document 01's outcome 4.
+// What reading a message finds: its fields, and where its entry lines begin. Refused is outcome 4.
 pub enum Read {
     Message { fields: Fields, entries: usize },
     Refused,

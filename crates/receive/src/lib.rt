@@ -1,4 +1,4 @@
-// A received message, whatever it is: the refusals in document 01's order, a higher term, and the rule for each type of message. Its entries stay
+// A received message, whatever it is: the refusals in the order of rule R32, a higher term, and the rule for each type of message. Its entries stay
 // where they lie in the lent text.
 ghost use mathlib.Core.Path.{_≡_};
 ghost use mathlib.Core.Bool.{cond};
@@ -29,7 +29,7 @@ const CANDIDATE: u8 = 1;
 
 const LEADER: u8 = 2;
 
-// Document 01's outcomes.
+// Outcomes (rule R32).
 const DONE: u32 = 0;
 
 const BAD_MESSAGE: u64 = 4;

@@ -1,4 +1,4 @@
--- "A hub reports the commands at places 1 to chosen of its log, and no others": what a caller that asks for one is told, and how many there are.
+-- A hub reports the commands at places 1 to chosen of its log, and no others (rule R13): what a caller that asks for one is told, and how many there are.
 -- Assumes nothing.
 use Prim.Native.Nat.{ℕ, zero, suc, _*_}
 use mathlib.Core.Path.{_≡_}

@@ -5,7 +5,7 @@ ghost use Rattle.report.specs.Report.{Reports, reportOf, chosenOf};
 // The bytes of a command.
 const COMMAND: usize = 16;
 
-// Document 01's outcomes.
+// Outcomes (rule R32).
 const DONE: u32 = 0;
 
 const BAD_STATE: u32 = 2;

@@ -1,4 +1,4 @@
--- Document 01's cases, computed. Assumes nothing.
+-- The cases of rule R39, computed. Assumes nothing.
 use mathlib.Core.Path.{refl}
 use Rattle.rules.specs.Cases.{table, CasesHold}
 use Rattle.rules.proofs.Computed.{computed}

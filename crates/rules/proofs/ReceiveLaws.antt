@@ -1,4 +1,4 @@
--- Receive is fair, whatever it comes to, and outcome 13 says what 01 says. Assumes nothing.
+-- Receive is fair, whatever it comes to, and outcome 13 is given exactly where rule R32 has it. Assumes nothing.
 use Prim.Native.Nat.{ℕ, _≤_, _<_}
 use native.Mathlib.Omega.{arith}
 use mathlib.Core.Path.{_≡_, refl}
@@ -211,7 +211,7 @@ module _ (w : Who) (i : IsWho w) (s : State) (h : legalState w s ≡ true) (m : 
       (rule-fine w i r next (legal .term) (m .from) (sender a) (m .body) (legal .body) (raised-agrees s (m .term) (m .body))
       (λ t. omega (arith, kept .ballot)))
 
-  -- Each outcome in 01's order.
+  -- Each outcome in the order of rule R32.
   pub receive-fair : Fair w s (receive w s m)
   unfolding receive
   receive-fair =

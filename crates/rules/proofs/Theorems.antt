@@ -96,7 +96,7 @@ majorityPlace-in-log w s confirmed h e =
     let l = legalLeader-is w (s .kept) confirmed (rw e at (legalState-lost w s h)) in
     majorityPlace-within (w .size) (len s) confirmed (l .most)
 
--- ---- an event takes effect where 01 permits it
+-- ---- an event takes effect where the rules permit it
 
 -- A start.
 pub start-takes-effect : StartTakesEffect

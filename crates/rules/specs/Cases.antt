@@ -1,4 +1,4 @@
--- Document 01, "From the test bench": its twelve starred cases, in one table and one statement. Assumes nothing.
+-- The twelve cases from the test bench (rule R39), in one table and one statement. Assumes nothing.
 use Prim.Native.Nat.{ℕ}
 use mathlib.Core.List.{List, [], _∷_}
 use lib.IntN.{pos}
@@ -80,6 +80,6 @@ table =
     (ascii "type=append-yes\nterm=2\nfrom=2\nto=1\nend=2\n")
     ∷ []
 
--- Every one of the twelve cases comes out as 01 has it.
+-- Every one of the twelve cases comes out as rule R39 has it.
 abbrev pub CasesHold : Type 0
 CasesHold = AllHold table

@@ -1,4 +1,4 @@
--- Document 01, "Events": start, propose, send and restart, each at a legal state. Receive has a file of its own. Assumes nothing.
+-- Start, propose, send and restart (rules R17 to R20), each at a legal state. Receive has a file of its own. Assumes nothing.
 use Prim.Native.Nat.{ℕ, _+_, _-_}
 use mathlib.Core.Bool.{Bool, true, false, cond, not, _||_}
 use mathlib.Core.List.{List, [], _∷_, _++_, map}

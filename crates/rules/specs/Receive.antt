@@ -1,4 +1,4 @@
--- Document 01, "Receive": a legal message at a legal state. Assumes nothing.
+-- Receive (rules R21 to R26): a legal message at a legal state. Assumes nothing.
 use Prim.Native.Nat.{ℕ, _+_, max}
 use mathlib.Core.Bool.{Bool, true, false, cond, not, _&&_, _||_}
 use mathlib.Core.List.{List, [], _∷_, _++_, map}

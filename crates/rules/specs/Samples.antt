@@ -14,7 +14,7 @@ use Rattle.rules.specs.Row.{Row}
 
 -- ---- commands
 
--- A buzz of motor 3. For 250 ms at gain 0.5 it is the command of 01's whole append.
+-- A buzz of motor 3. For 250 ms at gain 0.5 it is the command of the whole append of rule R28.
 abbrev pub buzzing : ℤ → ℕ → Command
 buzzing duration gain = record { motor = 3; kind = 1; duration = duration; a = gain; b = 0 }
 
@@ -65,7 +65,7 @@ withOne c = leading (kept 1 1 0 (record { term = 1; command = c } ∷ [])) (conf
 
 -- ---- texts
 
--- 01's whole append.
+-- The whole append of rule R28.
 abbrev pub wholeAppend : List ℕ
 wholeAppend =
     ascii "type=append\nterm=1\nfrom=1\nto=2\nprev=0\nprevterm=0\nchosen=0\ncount=1\nentry=1:00030001000000fa3f00000000000000\n"

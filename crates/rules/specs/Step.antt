@@ -1,4 +1,4 @@
--- One call of the step: all that comes in, all that goes out, and what the one makes of the other. The refusals stand in document 01's order.
+-- One call of the step: all that comes in, all that goes out, and what the one makes of the other. The refusals stand in the order of rule R32.
 -- Assumes nothing.
 use Prim.Native.Nat.{ℕ}
 use mathlib.Core.Bool.{cond, _&&_}
@@ -36,7 +36,7 @@ pub record Answer : Type 0 where
   pub state : List ℕ
   pub output : List ℕ
 
--- ---- the events, in 01's order
+-- ---- the events, in the order of rules R17 to R21
 
 pub data Event : Type 0 where
   start-event : Event

@@ -28,7 +28,7 @@ const LEADER: u8 = 2;
 // The last term.
 const TERM_MOST: u32 = 0xffff_ffff;
 
-// Document 01's outcomes.
+// Outcomes (rule R32).
 const WRONG_ROLE: u64 = 8;
 
 const NO_TERM_LEFT: u64 = 9;

@@ -1,4 +1,4 @@
--- Document 01, "Legal state": the kept parts alone, and with what each role holds, given N and the own number.
+-- A legal state (rules R14 and R15): the kept parts alone, and with what each role holds, given N and the own number.
 -- A list over the seven hubs has hub h at h - 1. Assumes nothing.
 use Prim.Native.Nat.{ℕ, _+_, _-_}
 use mathlib.Core.Bool.{Bool, true, false, _&&_, _||_, not}

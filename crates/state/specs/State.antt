@@ -1,4 +1,4 @@
--- Document 01, "Hub state": what a hub keeps over a restart and what it loses, a fresh hub, and what a hub reports. Assumes nothing.
+-- A hub's state (rules R10 to R13): what a hub keeps over a restart and what it loses, a fresh hub, and what a hub reports. Assumes nothing.
 use Prim.Native.Nat.{ℕ}
 use mathlib.Core.Bool.{Bool}
 use mathlib.Core.List.{List, [], map}

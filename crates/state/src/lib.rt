@@ -203,7 +203,7 @@ fn are_flags(s: &[u8], at: usize) -> bool
     (s[at] <= 1) & ((s[at + 1] <= 1) & ((s[at + 2] <= 1) & ((s[at + 3] <= 1) & last)))
 }
 
-// Document 01: ballot ≤ term; chosen ≤ length ≤ 256; an empty log if ballot is 0.
+// Rule R14: ballot ≤ term; chosen ≤ length ≤ 256; an empty log if ballot is 0.
 fn is_kept_head(h: Head) -> bool
     ensures { λ r. ⌜ r ≡ keptHead h ⌝ }
 {

@@ -1,4 +1,4 @@
--- Laws of gathering where the rows lie: what is written is what 01's rule gathers. Assumes nothing.
+-- Laws of gathering where the rows lie: what is written is what rule R23 gathers. Assumes nothing.
 use Prim.Native.Nat.{ℕ, _+_, _-_, _*_, _^_, _≤_, _<_}
 use native.Mathlib.Omega.{arith}
 use mathlib.Core.Path.{_≡_, refl, sym, _∙_, ap}

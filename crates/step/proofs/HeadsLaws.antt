@@ -1,4 +1,4 @@
--- Laws of the heads that events make: each is the head of the state that 01's rule gives. Assumes nothing.
+-- Laws of the heads that events make: each is the head of the state that the event's rule gives. Assumes nothing.
 use Prim.Native.Nat.{ℕ, zero, suc, _+_, _-_}
 use mathlib.Core.Path.{_≡_, refl}
 use mathlib.Core.List.{List, [], _∷_, map}

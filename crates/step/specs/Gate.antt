@@ -1,4 +1,4 @@
--- The tests that stand before every event, in document 01's order. Assumes nothing.
+-- The tests that stand before every event, in the order of rule R32. Assumes nothing.
 use Prim.Native.Nat.{ℕ}
 use mathlib.Core.Bool.{Bool, cond, _&&_}
 use mathlib.Core.List.{List}

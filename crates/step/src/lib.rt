@@ -43,7 +43,7 @@ const LEADER: u8 = 2;
 // The event that checks the kept parts alone.
 const RESTART: u32 = 4;
 
-// Document 01's outcomes.
+// Outcomes (rule R32).
 const DONE: u32 = 0;
 
 const NOT_KNOWN: u32 = 1;
@@ -234,7 +234,7 @@ fn is_fit(g: Group, event: u32, state: &[u8]) -> bool
     state::is_legal(g.size, g.own.number(), state)
 }
 
-// The refusals before every event, in document 01's order: 1, 2, 3; 0 if there is none.
+// The refusals before every event, in the order of rule R32: 1, 2, 3; 0 if there is none.
 pub fn refusal_before(g: Group, event: u32, state: &[u8], out: &[u8]) -> u32
     ensures { λ r. ⌜ r ≡ gate (whoIn g) event (now (state .entry)) (now (out .entry)) ⌝ }
 {

@@ -1,4 +1,4 @@
--- Document 01: "Numbers are decimal without sign or leading zeros (0 is `0`)". How a number is written, and how it is read.
+-- Numbers are decimal without sign or leading zeros, 0 is `0` (rule R27). How a number is written, and how it is read.
 -- A number has no limit here: what is too large is a matter of the field that holds it. Assumes nothing.
 use Prim.Native.Nat.{ℕ, zero, suc, _+_, _-_, _*_, _/_, _%_}
 use mathlib.Core.Bool.{Bool, true, false}

@@ -1,4 +1,4 @@
--- Document 01: "Lines `key=value`, each ended by LF (byte 10)". A line whose value is a number, written and read.
+-- Lines `key=value`, each ended by LF, byte 10 (rule R27). A line whose value is a number, written and read.
 -- A key is given with its `=`. Assumes nothing.
 use Prim.Native.Nat.{ℕ}
 use mathlib.Core.List.{List, [], _∷_, _++_}

@@ -1,4 +1,4 @@
-// Text as document 01 has it: decimal numbers, lower-case hex digits and `key=` lines, read from a lent slice and written into one.
+// Text as rule R27 has it: decimal numbers, lower-case hex digits and `key=` lines, read from a lent slice and written into one.
 // A reader is told the place to read at, and answers a value with the place past it. The message reader and writer call these.
 ghost use mathlib.Core.Path.{_≡_};
 ghost use Prim.Native.Nat.{_+_, _*_, _<_, _≤_};

@@ -1,4 +1,4 @@
--- Laws of the tests of a message that is to be written: rows tested one by one, and the tests of each type are document 01's. Assumes nothing.
+-- Laws of the tests of a message that is to be written: rows tested one by one, and the tests of each type are those of rule R30. Assumes nothing.
 use Prim.Native.Nat.{ℕ, suc, _+_, _*_, _≤_}
 use native.Mathlib.Omega.{arith}
 use mathlib.Core.Path.{_≡_, refl, sym, _∙_, ap, ap₂}

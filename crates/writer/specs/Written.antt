@@ -1,4 +1,4 @@
--- What writing a message alone answers, in document 01's numbers: "Read or written alone, an illegal message is 4, too short an output 3".
+-- What writing a message alone answers (rule R35): an illegal message is 4, too short an output 3.
 -- Assumes nothing.
 use Prim.Native.Nat.{ℕ, _*_}
 use mathlib.Core.Bool.{Bool, cond, _&&_}
@@ -46,7 +46,7 @@ written f rows out =
 
 -- ---- the promise
 
--- The outcome that 01 gives each case of the answer, and the bytes of the text.
+-- The outcome of each case of the answer, and the bytes of the text.
 abbrev pub outcomeOf : Write → ℕ
 outcomeOf (Message n) = done
 outcomeOf Short = short-output

@@ -1,4 +1,4 @@
-// Messages written into a lent buffer, as document 01 has their text: from their fields, and from rows of 20 bytes for their entries.
+// Messages written into a lent buffer, as rules R27 and R28 have their text: from their fields, and from rows of 20 bytes for their entries.
 // `put_message` is for who knows that the message is legal, as the hub's step does; `write_message` tests all of it first.
 ghost use mathlib.Core.Path.{_≡_};
 ghost use Prim.Native.Nat.{_+_, _*_, _≤_};
@@ -32,7 +32,7 @@ const ROW: usize = 20;
 // The least bytes of an output.
 const OUTPUT: usize = 16_384;
 
-// What writing a message alone answers: how many bytes its text has; or document 01's outcome 3; or its outcome 4.
+// What writing a message alone answers: how many bytes its text has; or outcome 3; or outcome 4.
 pub enum Write {
     Message { bytes: usize },
     Short,

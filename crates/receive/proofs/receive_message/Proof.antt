@@ -1,4 +1,4 @@
--- `receive::receive_message` meets its contract: each refusal is one outcome, in document 01's order. Assumes nothing.
+-- `receive::receive_message` meets its contract: each refusal is one outcome, in the order of rule R32. Assumes nothing.
 use mathlib.Core.Path.{sym, _∙_}
 use borrow.Author.Needs.{needs}
 use Rattle.step.proofs.PromiseLaws.{ready-long, ready-head}
