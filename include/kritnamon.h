@@ -21,6 +21,14 @@
 extern "C" {
 #endif
 
+/* ---- Version: 10,000 for each major version, 100 for each minor one, 1 for each patch. */
+
+#define KRITNAMON_VERSION 10000u  /* 1.0.0 */
+
+/* The version of the library that was linked. Firmware compares it with KRITNAMON_VERSION, that of
+ * the header, once when it starts. Proved: kritnamon_version in crates/kritnamon. */
+uint32_t kritnamon_version(void);
+
 /* ---- Outcomes. They are tested in this order; the first that applies is given. */
 
 #define KRITNAMON_DONE           0u  /* done */

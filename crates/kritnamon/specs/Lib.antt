@@ -1,3 +1,4 @@
 pub mod Message
 pub mod Numbers
+pub mod Version
 pub mod Write

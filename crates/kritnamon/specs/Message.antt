@@ -1,4 +1,4 @@
--- What reading a message alone tells C: "Read alone, an illegal message is 4, too short an output 3". Assumes nothing.
+-- What reading a message alone tells C (rule R35): an illegal message is 4, too few lent numbers 3. Assumes nothing.
 use Prim.Native.Nat.{ℕ, _+_, _*_}
 use mathlib.Core.Bool.{cond}
 use mathlib.Core.List.{List, [], _∷_, _++_}
@@ -14,7 +14,7 @@ use Rattle.message.specs.Text.{read, partFrom}
 abbrev pub message-numbers : ℕ
 message-numbers = 8
 
--- The type's number, 1 to 6 in 01's order.
+-- The type's number, 1 to 6 in the order of rule R28.
 abbrev pub typeNumber : Body → ℕ
 typeNumber (vote-request last ballot) = 1
 typeNumber (vote-yes last ballot entries) = 2

@@ -1,4 +1,4 @@
--- What writing a message alone tells C: "Written alone, an illegal message is 4, too short an output 3". Assumes nothing.
+-- What writing a message alone tells C (rule R35): an illegal message is 4, too short an output 3. Assumes nothing.
 use Prim.Native.Nat.{ℕ, _+_, _*_}
 use mathlib.Core.Bool.{Bool, true, false, cond, _&&_}
 use mathlib.Core.List.{List, [], _∷_}

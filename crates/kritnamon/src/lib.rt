@@ -13,6 +13,7 @@ ghost use Rattle.step.specs.Gate.{gate};
 ghost use Rattle.report.specs.Report.{Reports, reportOf, chosenOf};
 ghost use Rattle.kritnamon.specs.Message.{Tells, tells};
 ghost use Rattle.kritnamon.specs.Numbers.{kindIn, ownIn, numbersIn};
+ghost use Rattle.kritnamon.specs.Version.{version};
 ghost use Rattle.kritnamon.specs.Write.{bodyWith, fieldsWith, areFields, writes, Leaves};
 use kinds::Hub;
 use kinds::Place;
@@ -32,7 +33,7 @@ const SEND: u32 = 3;
 
 const RESTART: u32 = 4;
 
-// Document 01's outcomes.
+// Outcomes (rule R32).
 const DONE: u64 = 0;
 
 const SHORT_OUTPUT: u64 = 3;
@@ -42,6 +43,8 @@ const BAD_MESSAGE: u64 = 4;
 const MESSAGE_NUMBERS: usize = 8;
 // What stands above an outcome is counted in these.
 const UPPER: u64 = 4294967296;
+// The version: 1.0.0.
+const VERSION: u32 = 10000;
 
 // Reads a command's 16 bytes into the first five lent numbers: motor, kind, duration, a and b. A refusal (3: fewer than five numbers
 // lent; 10: not a legal command) leaves them all.
@@ -225,6 +228,14 @@ pub extern "C" fn kritnamon_write_message(numbers: &[u32], rows: &[u8], out: &mu
         Write::Short => SHORT_OUTPUT,
         Write::Illegal => BAD_MESSAGE,
     }
+}
+
+// The version of the library.
+#[no_mangle]
+pub extern "C" fn kritnamon_version() -> u32
+    ensures { λ r. ⌜ r ≡ version ⌝ }
+{
+    VERSION
 }
 
 // How many bytes a state has.
