@@ -85,7 +85,7 @@ fn outcomes_are_those_of_the_rules() {
         ("NO_TERM_LEFT", Outcome::LastTerm),
         ("BAD_COMMAND", Outcome::BadCommand),
         ("LOG_FULL", Outcome::FullLog),
-        ("BAD_SEND", Outcome::BadSend),
+        ("OUT_OF_RANGE", Outcome::BadSend),
         ("NOTHING_NEW", Outcome::NoEffect),
     ];
     for (name, outcome) in pairs {
