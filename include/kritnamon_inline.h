@@ -1,4 +1,4 @@
-/* Small helpers around kritnamon.h, for C and C++: a number of a state, a gain's bits, an outcome's
+/* Small functions around kritnamon.h, for C and C++: a number of a state, a gain's bits, an outcome's
  * name. They are plain C, and no part of the library or of what is proved. */
 #ifndef KRITNAMON_INLINE_H
 #define KRITNAMON_INLINE_H

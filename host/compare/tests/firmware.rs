@@ -86,8 +86,39 @@ fn a_call_takes_less_stack_than_the_header_says() {
     run("stack-use");
 }
 
+/// Links the whole archive with one function and nothing else.
+fn links_with(function: &str) -> bool {
+    let folder = Path::new(env!("CARGO_TARGET_TMPDIR"));
+    let source = folder.join(function).with_extension("c");
+    std::fs::write(&source, format!("int {function}(void) {{ return 0; }}\n")).expect("a file");
+    let linked = Command::new("cc")
+        .args([
+            "-w",
+            "-fno-builtin",
+            "-fPIC",
+            "-shared",
+            "-nostdlib",
+            "-Wl,--no-undefined",
+            "-Wl,--whole-archive",
+        ])
+        .arg(path("target/native/libkritnamon.a"))
+        .arg("-Wl,--no-whole-archive")
+        .arg(&source)
+        .arg("-o")
+        .arg(source.with_extension("so"))
+        .output()
+        .expect("cc, with which cargo links too");
+    linked.status.success()
+}
+
 #[test]
-fn the_helpers_are_cpp17() {
+fn the_archive_needs_memset_alone() {
+    assert!(links_with("memset"));
+    assert!(!links_with("memcpy"));
+}
+
+#[test]
+fn the_inline_header_is_cpp17() {
     let compiled = Command::new("c++")
         .args(["-std=c++17", "-x", "c++", "-fsyntax-only"])
         .args(WARNINGS)
