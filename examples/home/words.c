@@ -1,6 +1,6 @@
 #include "words.h"
 
-#include "hub.h"
+#include "../hub.h"
 
 #include <inttypes.h>
 #include <stdio.h>

@@ -3,6 +3,7 @@
 #define NETWORK_H
 
 #include "kritnamon.h"
+#include "record.h"
 
 #include <stdbool.h>
 
@@ -13,6 +14,7 @@
 struct letter {
     uint32_t from;
     uint32_t to;
+    uint32_t sent;   /* the moment */
     uint32_t due;    /* the moment from which it may be taken */
     uint32_t number; /* letters are numbered as they are sent */
     size_t length;
@@ -21,6 +23,7 @@ struct letter {
 
 struct network {
     uint64_t chance;
+    struct record *record;                              /* where the fate of each message is put down */
     bool unplugged[NETWORK_HUBS + 1];                   /* by hub number, as is latest */
     uint32_t latest[NETWORK_HUBS + 1][NETWORK_HUBS + 1]; /* the latest letter taken, by from and to */
     uint32_t sent, lost, repeated, overtaken;

@@ -21,6 +21,17 @@ static bool one_in(struct network *network, uint32_t chances)
     return network_chance(network, chances) == 0;
 }
 
+static void note(struct network *network, enum what what, uint32_t now, uint32_t from, uint32_t to, uint32_t sent)
+{
+    record_add(network->record, (struct fact){.what = what, .moment = now, .hub = from, .number = to, .sent = sent});
+}
+
+static void lose(struct network *network, uint32_t now, uint32_t from, uint32_t to, uint32_t sent)
+{
+    network->lost++;
+    note(network, LOST, now, from, to, sent);
+}
+
 static struct letter *free_place(struct network *network)
 {
     for (size_t index = 0; index < NETWORK_LETTERS; index++) {
@@ -37,11 +48,12 @@ static void put_on_the_way(struct network *network, uint32_t now, uint32_t from,
     struct letter *letter = free_place(network);
 
     if (letter == NULL) {
-        network->lost++;
+        lose(network, now, from, to, now);
         return;
     }
     letter->from = from;
     letter->to = to;
+    letter->sent = now;
     letter->due = now + 1 + network_chance(network, DELAY_MOST);
     letter->number = network->sent;
     letter->length = length;
@@ -52,7 +64,7 @@ void network_send(struct network *network, uint32_t now, uint32_t from, uint32_t
 {
     network->sent++;
     if (network->unplugged[from] || one_in(network, LOST_ONE_IN)) {
-        network->lost++;
+        lose(network, now, from, to, now);
         return;
     }
     put_on_the_way(network, now, from, to, text, length);
@@ -75,7 +87,7 @@ static struct letter *due_letter(struct network *network, uint32_t now, uint32_t
 }
 
 /* Whether a letter comes after one that was sent later is kept for the count alone. */
-static size_t hand_over(struct network *network, struct letter *letter, uint8_t text[KRITNAMON_TEXT_MOST])
+static size_t hand_over(struct network *network, uint32_t now, struct letter *letter, uint8_t text[KRITNAMON_TEXT_MOST])
 {
     uint32_t *latest = &network->latest[letter->from][letter->to];
     size_t length = letter->length;
@@ -85,6 +97,7 @@ static size_t hand_over(struct network *network, struct letter *letter, uint8_t 
     } else {
         *latest = letter->number;
     }
+    note(network, ARRIVES, now, letter->from, letter->to, letter->sent);
     memcpy(text, letter->text, length);
     letter->length = 0;
     return length;
@@ -95,9 +108,9 @@ size_t network_take(struct network *network, uint32_t now, uint32_t to, uint8_t 
     struct letter *letter = due_letter(network, now, to);
 
     while (letter != NULL && network->unplugged[to]) {
-        network->lost++;
+        lose(network, now, letter->from, letter->to, letter->sent);
         letter->length = 0;
         letter = due_letter(network, now, to);
     }
-    return letter == NULL ? 0 : hand_over(network, letter, text);
+    return letter == NULL ? 0 : hand_over(network, now, letter, text);
 }
