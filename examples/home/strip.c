@@ -1,0 +1,212 @@
+#include "strip.h"
+
+#include "home.h"
+
+#include <inttypes.h>
+
+/* In pixels. */
+#define FIRST_LANE 38 /* below the top */
+#define LANE       48 /* from one to the next */
+#define BAR        16 /* the height of what lasts, on a lane */
+#define PLACE      18 /* the width of a played place */
+#define WORDS      80 /* the width of what is said of a leader */
+
+static int x_of(const struct strip *strip, uint32_t moment)
+{
+    return STRIP_LEFT + STRIP_MOMENT * ((int)moment - (int)strip->from);
+}
+
+static int y_of(const struct strip *strip, uint32_t hub)
+{
+    return strip->top + FIRST_LANE + LANE * ((int)hub - 1);
+}
+
+/* ---- The ground. */
+
+static void draw_seconds(const struct strip *strip)
+{
+    for (uint32_t moment = strip->from; moment <= strip->to; moment += MOMENTS_A_SECOND) {
+        int x = x_of(strip, moment);
+
+        fprintf(strip->file, "<path class=\"second\" d=\"M%d %dV%d\"/>", x, strip->top + 8, y_of(strip, HUBS) + LANE / 2);
+        fprintf(strip->file, "<text class=\"small\" x=\"%d\" y=\"%d\">%" PRIu32 " s</text>\n", x, strip->top + 4,
+                moment / MOMENTS_A_SECOND);
+    }
+}
+
+static void draw_lanes(const struct strip *strip)
+{
+    for (uint32_t hub = 1; hub <= HUBS; hub++) {
+        int y = y_of(strip, hub);
+
+        fprintf(strip->file, "<text class=\"name\" x=\"4\" y=\"%d\">hub %" PRIu32 "</text>", y + 4, hub);
+        fprintf(strip->file, "<path class=\"lane\" d=\"M%d %dH%d\"/>\n", STRIP_LEFT, y, x_of(strip, strip->to));
+    }
+}
+
+/* ---- Messages. */
+
+static void draw_arrival(const struct strip *strip, const struct fact *fact)
+{
+    fprintf(strip->file, "<path class=\"message\" d=\"M%d %dL%d %d\"/>\n", x_of(strip, fact->sent), y_of(strip, fact->hub),
+            x_of(strip, fact->moment), y_of(strip, fact->number));
+}
+
+/* A cross stands where it is lost: early on its way, or near a hub that can't take it. */
+static void draw_loss(const struct strip *strip, const struct fact *fact)
+{
+    int x = x_of(strip, fact->sent);
+    int y = y_of(strip, fact->hub);
+    int down = y_of(strip, fact->number) - y;
+    bool early = fact->moment == fact->sent;
+    int across = early ? STRIP_MOMENT : x_of(strip, fact->moment) - x;
+    int reached = early ? (down > 0 ? LANE / 2 : -LANE / 2) : down * 3 / 4;
+
+    fprintf(strip->file, "<path class=\"lost\" d=\"M%d %dl%d %dm-3 -3l6 6m0 -6l-6 6\"/>\n", x, y, across, reached);
+}
+
+/* A message may leave in one strip and come in the next: each shows its part. */
+static void draw_messages(const struct strip *strip)
+{
+    int width = x_of(strip, strip->to) - STRIP_LEFT;
+
+    fprintf(strip->file, "<clipPath id=\"from%" PRIu32 "\"><path d=\"M%d %dh%dv%dh-%dz\"/></clipPath>\n", strip->from, STRIP_LEFT,
+            strip->top, width, STRIP_HEIGHT, width);
+    fprintf(strip->file, "<g clip-path=\"url(#from%" PRIu32 ")\">\n", strip->from);
+    for (size_t index = 0; index < strip->record->count; index++) {
+        const struct fact *fact = &strip->record->facts[index];
+        bool touches = fact->sent < strip->to && fact->moment >= strip->from;
+
+        if (fact->what == ARRIVES && touches) {
+            draw_arrival(strip, fact);
+        } else if (fact->what == LOST && touches) {
+            draw_loss(strip, fact);
+        }
+    }
+    fprintf(strip->file, "</g>\n");
+}
+
+/* ---- What lasts: to lead, to have no power, to be cut off. */
+
+/* Whether one fact ends what another began. */
+static bool ends(enum what what, enum what began)
+{
+    switch (began) {
+    case LEADS:
+        return what == FOLLOWS || what == DIES;
+    case DIES:
+        return what == RETURNS;
+    case IS_CUT_OFF:
+        return what == IS_HEARD;
+    default:
+        return true;
+    }
+}
+
+/* When that ends which began with the fact at an index. */
+static uint32_t end_of(const struct strip *strip, size_t index)
+{
+    const struct fact *began = &strip->record->facts[index];
+
+    while (++index < strip->record->count) {
+        const struct fact *fact = &strip->record->facts[index];
+
+        if (fact->hub == began->hub && ends(fact->what, began->what)) {
+            return fact->moment;
+        }
+    }
+    return strip->night;
+}
+
+static void draw_bar(FILE *file, const char *class, int x, int y, int width, int height)
+{
+    fprintf(file, "<rect class=\"%s\" x=\"%d\" y=\"%d\" width=\"%d\" height=\"%d\"/>\n", class, x, y - height / 2, width, height);
+}
+
+static void draw_leading(FILE *file, int x, int y, int width, uint32_t term)
+{
+    draw_bar(file, "leads", x, y, width, BAR);
+    if (width >= WORDS) {
+        fprintf(file, "<text class=\"term over\" x=\"%d\" y=\"%d\">leads, term %" PRIu32 "</text>\n", x, y + 23, term);
+    }
+}
+
+static void draw_lasting(const struct strip *strip, const struct fact *fact, int x, int width)
+{
+    int y = y_of(strip, fact->hub);
+
+    if (fact->what == LEADS) {
+        draw_leading(strip->file, x, y, width, fact->number);
+    } else if (fact->what == DIES) {
+        draw_bar(strip->file, "dead", x, y, width, BAR);
+        fprintf(strip->file, "<text class=\"power over\" x=\"%d\" y=\"%d\">no power</text>\n", x + width / 2, y + 4);
+    } else {
+        draw_bar(strip->file, "cut-off", x, y, width, 2 * BAR - 6);
+    }
+}
+
+static void draw_all_lasting(const struct strip *strip, enum what what)
+{
+    for (size_t index = 0; index < strip->record->count; index++) {
+        const struct fact *fact = &strip->record->facts[index];
+
+        if (fact->what == what) {
+            uint32_t end = end_of(strip, index);
+            int x = x_of(strip, fact->moment < strip->from ? strip->from : fact->moment);
+            int width = x_of(strip, end < strip->to ? end : strip->to) - x;
+
+            if (width > 0) {
+                draw_lasting(strip, fact, x, width);
+            }
+        }
+    }
+}
+
+/* ---- What happens at a moment. */
+
+void strip_draw_mark(FILE *file, const struct fact *fact, int x, int y)
+{
+    static const char *const marks[] = {
+        [ASKS] = "<path class=\"asks\" d=\"M0 -8L8 0L0 8L-8 0z\"/><text class=\"small over\" y=\"-12\">term %" PRIu32 "</text>",
+        [TAKES] = "<path class=\"takes\" d=\"M-6 -21H6L0 -10z\"/>",
+        [PLAYS_FIRST] = "<circle class=\"chosen\" r=\"8\"/><text class=\"number light\" y=\"4\">%" PRIu32 "</text>",
+        [PLAYS] = "<circle class=\"played\" r=\"8\"/><text class=\"number\" y=\"4\">%" PRIu32 "</text>",
+        [NOT_STORED] = "<path class=\"not-stored\" d=\"M-7 -7H7V7H-7z\"/><text class=\"number\" y=\"4\">!</text>",
+        [ARRIVES] = NULL,
+    };
+
+    if (marks[fact->what] != NULL) {
+        fprintf(file, "<g transform=\"translate(%d %d)\">", x, y);
+        fprintf(file, marks[fact->what], fact->number);
+        fprintf(file, "</g>\n");
+    }
+}
+
+/* Places that a hub plays at one moment stand side by side. */
+static void draw_marks(const struct strip *strip)
+{
+    int least[HUBS + 1] = {0}; /* x for the next place, by hub */
+
+    for (size_t index = 0; index < strip->record->count; index++) {
+        const struct fact *fact = &strip->record->facts[index];
+        bool plays = fact->what == PLAYS || fact->what == PLAYS_FIRST;
+        int x = x_of(strip, fact->moment);
+
+        if (strip->from <= fact->moment && fact->moment < strip->to) {
+            x = plays && x < least[fact->hub] ? least[fact->hub] : x;
+            least[fact->hub] = plays ? x + PLACE : least[fact->hub];
+            strip_draw_mark(strip->file, fact, x, y_of(strip, fact->hub));
+        }
+    }
+}
+
+void strip_draw(const struct strip *strip)
+{
+    draw_seconds(strip);
+    draw_messages(strip);
+    draw_lanes(strip);
+    draw_all_lasting(strip, LEADS);
+    draw_all_lasting(strip, DIES);
+    draw_all_lasting(strip, IS_CUT_OFF);
+    draw_marks(strip);
+}
