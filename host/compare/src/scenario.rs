@@ -14,10 +14,10 @@
 //! text forged             the lines `| key=value` that follow are a message that no hub has written
 //! ```
 
-use crate::call::{Call, PROPOSE, RECEIVE, RESTART, SEND, START, Step};
+use crate::binding::call::{Call, PROPOSE, RECEIVE, RESTART, SEND, START, Step};
+use crate::checker::view::{Command, Role, Row, STATE_SIZE, State, hex, put_number};
 use crate::checker::{Checker, Deed};
-use crate::messages::ROOM;
-use crate::view::{Command, Role, Row, STATE_SIZE, State, hex, put_number};
+use crate::generator::messages::ROOM;
 use independent::Hub;
 use std::collections::{BTreeMap, BTreeSet};
 use std::fmt::Write;

@@ -1,10 +1,10 @@
 //! Broken hubs: each variant of the independent program with one rule broken is caught, by name, and each does harm.
 
+use compare::binding::call::Step;
 use compare::broken::{VARIANTS, says_yes_to_lower_ballot};
-use compare::call::Step;
+use compare::checker::paxos::Refusal::{NoMajorityReported, NotTheHighestVote, SecondProposal};
 use compare::checker::{Checker, Reason};
-use compare::home::{Failure, Home, TURNS, size};
-use compare::paxos::Refusal::{NoMajorityReported, NotTheHighestVote, SecondProposal};
+use compare::generator::home::{Failure, Home, TURNS, size};
 
 /// What catches each variant, in the order of `VARIANTS`: the first always does among these homes, the others may.
 const CAUGHT: [&[Reason]; 7] = [

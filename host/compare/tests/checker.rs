@@ -1,8 +1,8 @@
 //! The checker itself: each thing that it has to object to is put before it once, by hand, after a start to which it has no objection.
 
-use compare::call::{PROPOSE, RECEIVE, RESTART, START};
+use compare::binding::call::{PROPOSE, RECEIVE, RESTART, START};
+use compare::checker::paxos::{Machine, Refusal};
 use compare::checker::{Checker, Deed, Reason};
-use compare::paxos::{Machine, Refusal};
 use independent::{Hub, Term};
 
 const FOLLOWER: u8 = 0;

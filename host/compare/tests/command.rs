@@ -1,8 +1,8 @@
 //! Commands, read and written alone: the proved library and the independent program give the same answers and leave the same bytes.
 
-use compare::rng::{Rng, rounds, seed};
-use compare::watched::Watched;
-use compare::{read_command, write_command};
+use compare::binding::watched::Watched;
+use compare::binding::{read_command, write_command};
+use compare::generator::rng::{Rng, rounds, seed};
 use independent::command::{self, Case, Command};
 
 /// What stands in lent numbers before a call, so that a number left alone is seen.

@@ -1,13 +1,13 @@
 //! The step at its edges: every byte of a state changed, and every size, number and input that is at or past a limit. Both programs give
 //! the same answers and leave the same bytes. `KRITNAMON_SEED` takes other states; the seed is printed.
 
-use compare::both::{Call, Tally};
-use compare::call::{PROPOSE, RECEIVE, RESTART, SEND, START};
-use compare::damage::row_changes;
+use compare::binding::both::{Call, Tally};
+use compare::binding::call::{PROPOSE, RECEIVE, RESTART, SEND, START};
+use compare::generator::damage::row_changes;
+use compare::generator::messages::{ROOM, ROW, shapes};
+use compare::generator::rng::{Rng, seed};
+use compare::generator::{aimed, states};
 use compare::image::{CANDIDATE, Image, LEADER, number_at};
-use compare::messages::{ROOM, ROW, shapes};
-use compare::rng::{Rng, seed};
-use compare::{aimed, states};
 use independent::state::{HEAD_SIZE, SIZE};
 use independent::{Group, LIMIT};
 

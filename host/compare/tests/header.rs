@@ -1,7 +1,7 @@
 //! The C header says what the library has: its functions are the archive's, its numbers those of the library and of the independent program.
 
-use compare::messages::{FIELDS, ROOM, ROW};
-use compare::{read_message, sizes};
+use compare::binding::{read_message, sizes};
+use compare::generator::messages::{FIELDS, ROOM, ROW};
 use independent::{Outcome, command, state, step};
 use std::collections::{BTreeMap, BTreeSet};
 use std::path::{Path, PathBuf};

@@ -1,9 +1,9 @@
 //! Messages, read alone: the proved library and the independent program give the same answers, find the entry lines at the same place,
 //! and leave the same numbers. `KRITNAMON_ROUNDS=50` makes a longer run of it, `KRITNAMON_SEED` another one.
 
-use compare::messages::{FIELDS, ROOM, fields_of, random, shapes};
-use compare::read_message;
-use compare::rng::{Rng, rounds, seed};
+use compare::binding::read_message;
+use compare::generator::messages::{FIELDS, ROOM, fields_of, random, shapes};
+use compare::generator::rng::{Rng, rounds, seed};
 use independent::message;
 
 /// What stands in lent numbers before a call.

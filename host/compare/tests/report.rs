@@ -1,7 +1,7 @@
 //! What a hub reports: the proved library hands over what the independent program says, at places 1 to chosen and no others.
 
-use compare::watched::Watched;
-use compare::{chosen, reported, sizes};
+use compare::binding::watched::Watched;
+use compare::binding::{chosen, reported, sizes};
 use independent::{Group, LIMIT, state, step};
 
 const BUZZ: [u8; 16] = [0, 3, 0, 1, 0, 0, 0, 250, 0x3f, 0, 0, 0, 0, 0, 0, 0];

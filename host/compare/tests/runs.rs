@@ -4,10 +4,10 @@
 //! and `KRITNAMON_SEED` for another one. Each home has a seed of its own, which is printed if it fails: with it as
 //! `KRITNAMON_SEED` and `KRITNAMON_STEPS=1` that home alone is run.
 
-use compare::call::{Step, exported, independent};
+use compare::binding::call::{Step, exported, independent};
 use compare::checker::Checker;
-use compare::home::{Home, TURNS, Tally, size};
-use compare::rng::seed;
+use compare::generator::home::{Home, TURNS, Tally, size};
+use compare::generator::rng::seed;
 
 /// How many steps are taken where nothing else is asked for.
 const STEPS: u64 = 300_000;

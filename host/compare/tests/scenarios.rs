@@ -1,7 +1,7 @@
 //! The scenarios of host/scenarios, played by the proved library and by the independent program: both give the whole expected text.
 
-use compare::call::{Step, exported, independent};
-use compare::mistakes::MISTAKES;
+use compare::binding::call::{Step, exported, independent};
+use compare::broken::mistakes::MISTAKES;
 use compare::scenario::play;
 use std::path::{Path, PathBuf};
 

@@ -1,14 +1,14 @@
 //! The step: the proved library and the independent program give the same answers and leave the same bytes, whatever is handed in.
 //! `KRITNAMON_ROUNDS=50` makes a longer run of it, `KRITNAMON_SEED` another one; the seed is printed.
 
-use compare::both::{Call, Tally};
-use compare::call::{PROPOSE, RECEIVE, RESTART, SEND, START};
-use compare::damage::{self, EDGES};
+use compare::binding::both::{Call, Tally};
+use compare::binding::call::{PROPOSE, RECEIVE, RESTART, SEND, START};
+use compare::generator::damage::{self, EDGES};
+use compare::generator::messages::{ROOM, random};
+use compare::generator::reached::Home;
+use compare::generator::rng::{Rng, rounds, seed};
+use compare::generator::{aimed, states};
 use compare::image::{Image, LEADER};
-use compare::messages::{ROOM, random};
-use compare::reached::Home;
-use compare::rng::{Rng, rounds, seed};
-use compare::{aimed, states};
 use independent::{Group, LIMIT};
 
 /// The size of a group, and the own number.

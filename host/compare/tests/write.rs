@@ -1,12 +1,12 @@
 //! Messages, written alone: the proved library and the independent program give the same answers and leave the same bytes, and what is
 //! written is read back. `KRITNAMON_ROUNDS=50` makes a longer run of it, `KRITNAMON_SEED` another one; the seed is printed.
 
-use compare::damage::{self, EDGES, row_changes};
+use compare::binding::watched::Watched;
+use compare::binding::{read_message, write_message};
+use compare::generator::damage::{self, EDGES, row_changes};
+use compare::generator::messages::{FIELDS, ROOM, ROW, Sample, message_of, random, rows, shapes};
+use compare::generator::rng::{Rng, rounds, seed};
 use compare::image::number_at;
-use compare::messages::{FIELDS, ROOM, ROW, Sample, message_of, random, rows, shapes};
-use compare::rng::{Rng, rounds, seed};
-use compare::watched::Watched;
-use compare::{read_message, write_message};
 use independent::message;
 
 /// What the independent program answers to these numbers and rows, and writes: its writer takes a message, so what makes none is refused here.

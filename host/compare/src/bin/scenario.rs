@@ -1,6 +1,6 @@
 //! Prints the text of scenario scripts, played by the proved library: `scenario FILE...`.
 
-use compare::call::exported;
+use compare::binding::call::exported;
 use compare::scenario::play;
 
 fn main() {

@@ -1,6 +1,7 @@
 //! The CPU time of the proved library beside the independent program's, and the library's size and stack, as the tables of docs/BENCHMARKS.md.
 
 mod archive;
+mod cpu;
 mod night;
 mod reading;
 mod stack;

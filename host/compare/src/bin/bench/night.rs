@@ -1,10 +1,10 @@
 //! A whole night: an election, and commands one after the other, until every hub knows that all are chosen. Every message goes through its text.
 
+use crate::cpu::medians;
 use crate::table;
-use compare::call::{Call, PROPOSE, RECEIVE, SEND, START, Step, exported, independent};
-use compare::cpu::medians;
+use compare::binding::call::{Call, PROPOSE, RECEIVE, SEND, START, Step, exported, independent};
+use compare::generator::messages::ROOM;
 use compare::image::number_at;
-use compare::messages::ROOM;
 use independent::{Hub, state};
 
 const COMMANDS: u32 = 200;

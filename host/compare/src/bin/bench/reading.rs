@@ -1,10 +1,10 @@
 //! Reading messages.
 
+use crate::cpu::medians;
 use crate::table;
 use crate::writing::append;
-use compare::cpu::medians;
-use compare::messages::FIELDS;
-use compare::read_message;
+use compare::binding::read_message;
+use compare::generator::messages::FIELDS;
 use independent::message;
 use std::hint::black_box;
 

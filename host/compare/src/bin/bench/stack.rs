@@ -3,8 +3,8 @@
 
 use crate::writing::append;
 use crate::{steps, table};
-use compare::both::Call;
-use compare::messages::{FIELDS, ROOM, message_of};
+use compare::binding::both::Call;
+use compare::generator::messages::{FIELDS, ROOM, message_of};
 use independent::{message, step};
 use std::alloc::{Layout, alloc, dealloc};
 use std::ffi::c_void;
@@ -89,7 +89,7 @@ fn step_depths() -> [usize; 2] {
         let Call { n, own, event, a, b, state, input, .. } = made.call();
         let [mut first, mut second] = [state.to_vec(), state.to_vec()];
         let ours = used(&mut || {
-            black_box(compare::step(n, own, event, a, b, &mut first, input, &mut out));
+            black_box(compare::binding::step(n, own, event, a, b, &mut first, input, &mut out));
         });
         let theirs = used(&mut || {
             black_box(step::step(n, own, event, a, b, &mut second, input, &mut other).written);
@@ -102,7 +102,7 @@ fn step_depths() -> [usize; 2] {
 fn reading_depths() -> [usize; 2] {
     let text = append(256).text();
     let ours = used(&mut || {
-        black_box(compare::read_message(&text, &mut [0; FIELDS]));
+        black_box(compare::binding::read_message(&text, &mut [0; FIELDS]));
     });
     let theirs = used(&mut || {
         black_box(message::read(&text).message.is_ok());
@@ -116,7 +116,7 @@ fn writing_depths() -> [usize; 2] {
     let entries = sample.entries();
     let mut out = vec![0; ROOM];
     let ours = used(&mut || {
-        black_box(compare::write_message(&sample.fields, &sample.rows, &mut out));
+        black_box(compare::binding::write_message(&sample.fields, &sample.rows, &mut out));
     });
     let theirs = used(&mut || {
         black_box(message::write(&message, entries.iter().copied(), &mut out).written);

@@ -1,11 +1,11 @@
 //! One step of each kind, at logs of several lengths. The state is put back before each call, outside of what is timed.
 
+use crate::cpu::medians_from;
 use crate::table;
-use compare::both::Call;
-use compare::call::{PROPOSE, RECEIVE, RESTART, SEND, START};
-use compare::cpu::medians_from;
+use compare::binding::both::Call;
+use compare::binding::call::{PROPOSE, RECEIVE, RESTART, SEND, START};
+use compare::generator::messages::{ROOM, Sample, rows};
 use compare::image::{CANDIDATE, Image, LEADER, rows_of_bytes};
-use compare::messages::{ROOM, Sample, rows};
 use independent::{LIMIT, step};
 use std::hint::black_box;
 
@@ -145,7 +145,7 @@ fn measure(made: &Step) -> (f64, f64) {
     let Call { n, own, event, a, b, state, input, .. } = call;
     let [mut out, mut other] = [vec![0; ROOM], vec![0; ROOM]];
     let ours = |state: &mut [u8]| {
-        black_box(compare::step(n, own, event, a, b, state, black_box(input), &mut out));
+        black_box(compare::binding::step(n, own, event, a, b, state, black_box(input), &mut out));
     };
     let theirs = |state: &mut [u8]| {
         black_box(step::step(n, own, event, a, b, state, black_box(input), &mut other).written);

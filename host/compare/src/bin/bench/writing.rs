@@ -1,9 +1,9 @@
 //! Writing messages.
 
+use crate::cpu::medians;
 use crate::table;
-use compare::cpu::medians;
-use compare::messages::{ROOM, Sample, message_of, rows};
-use compare::write_message;
+use compare::binding::write_message;
+use compare::generator::messages::{ROOM, Sample, message_of, rows};
 use independent::message;
 use std::hint::black_box;
 

@@ -3,11 +3,14 @@
 //! who starts or says yes reports; who leads proposes what its log has. What the machine cannot do, what a message claims without
 //! ground, and what a home must never report is named by a `Reason`.
 
-use crate::call::{PROPOSE, START};
-use crate::paxos::{Machine, Refusal};
-use crate::view::{Command, Kind, Message, Role, State};
+pub mod paxos;
+pub mod view;
+
+use crate::binding::call::{PROPOSE, START};
 use independent::{Hub, Place, Term};
+use paxos::{Machine, Refusal};
 use std::collections::BTreeSet;
+use view::{Command, Kind, Message, Role, State};
 
 /// What is wrong with a step.
 #[derive(Clone, Copy, Debug, PartialEq, Eq)]

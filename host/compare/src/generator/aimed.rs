@@ -1,9 +1,9 @@
 //! Random messages aimed at a hub in a given state: its own term, lengths and ballots, and what lies next to them.
 
+use crate::generator::messages::Sample;
+use crate::generator::rng::Rng;
+use crate::generator::states::{at_most, rising};
 use crate::image::{Image, bytes_of_rows};
-use crate::messages::Sample;
-use crate::rng::Rng;
-use crate::states::{at_most, rising};
 use independent::{Group, LIMIT};
 
 /// A legal message for this hub, of any of the six types.

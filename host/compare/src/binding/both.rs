@@ -1,8 +1,8 @@
 //! One call of the step made to both programs, every lent byte compared; and a count of what came of the calls.
 
-use crate::call::RECEIVE;
-use crate::messages::fields_of;
-use crate::watched::Watched;
+use crate::binding::call::RECEIVE;
+use crate::binding::watched::Watched;
+use crate::generator::messages::fields_of;
 use independent::state::HEAD_SIZE;
 use independent::{message, step};
 
@@ -38,7 +38,7 @@ impl Call<'_> {
         let out = before(self.room);
         let mut ours = [self.state, self.input, &out].map(Watched::new);
         let [state, input, lent] = &mut ours;
-        let answered = crate::step(n, own, event, a, b, state.lend(), input.lend(), lent.lend());
+        let answered = crate::binding::step(n, own, event, a, b, state.lend(), input.lend(), lent.lend());
         let mut theirs = [self.state.to_vec(), out];
         let [state, lent] = &mut theirs;
         let answer = step::step(n, own, event, a, b, state, self.input, lent);

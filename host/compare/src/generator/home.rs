@@ -1,12 +1,12 @@
 //! Random runs of a home: hubs driven by any function of the step's form over a `Network`, with hubs that restart, stay away, and start
 //! together. A `Checker` looks at every step. All that happens comes from a seed: the same seed gives the same run.
 
-use crate::call::{Call, PROPOSE, RECEIVE, RESTART, SEND, START, Step};
+use crate::binding::call::{Call, PROPOSE, RECEIVE, RESTART, SEND, START, Step};
+use crate::checker::view::{self, Command, Kind, Message, Role, STATE_SIZE, State};
 use crate::checker::{Checker, Deed, Reason};
-use crate::messages::ROOM;
-use crate::network::{LONELY, Letter, Network, WEATHERS};
-use crate::rng::Rng;
-use crate::view::{self, Command, Kind, Message, Role, STATE_SIZE, State};
+use crate::generator::messages::ROOM;
+use crate::generator::network::{LONELY, Letter, Network, WEATHERS};
+use crate::generator::rng::Rng;
 use independent::{Hub, Place};
 use std::collections::VecDeque;
 

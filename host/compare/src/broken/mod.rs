@@ -2,8 +2,10 @@
 //! lies around its step: the state or the message on the way in, the state or the text on the way out. Each rule is broken as
 //! a program that never knew of it would break it, so states stay legal and the hub goes on.
 
-use crate::call::{Call, RECEIVE, RESTART, Step, independent};
-use crate::view::{
+pub mod mistakes;
+
+use crate::binding::call::{Call, RECEIVE, RESTART, Step, independent};
+use crate::checker::view::{
     BALLOT_AT, CHOSEN_AT, Kind, LENGTH_AT, LOST, Message, ROW_SIZE, Role, State, number_at, put_number, role,
     row_at,
 };

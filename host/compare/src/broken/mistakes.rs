@@ -1,12 +1,12 @@
 //! For each scenario a hub that makes the mistake it is about: the independent program with that mistake put around its step. So one sees
 //! that the scenario's text would not come out of such a hub.
 
+use crate::binding::call::{Call, Step, independent};
 use crate::broken::{
     chooses_with_one_less, counts_vote_twice, cuts_longer_log, heard, keeps_lesser_ballot,
     votes_for_lower_ballot,
 };
-use crate::call::{Call, Step, independent};
-use crate::view::{Kind, LOST, Role, State, confirmed_at, put_number};
+use crate::checker::view::{Kind, LOST, Role, State, confirmed_at, put_number};
 
 /// Each scenario with its mistake; some scenarios are about several.
 pub const MISTAKES: [(&str, Step); 14] = [

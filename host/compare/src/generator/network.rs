@@ -1,7 +1,7 @@
 //! A home's network: texts under way between hubs. It loses, repeats, reorders and delays them, but never makes one up or alters it.
 
-use crate::rng::Rng;
-use crate::view::{Kind, Message};
+use crate::checker::view::{Kind, Message};
+use crate::generator::rng::Rng;
 use independent::Hub;
 
 /// How a network and its hubs behave for a while: chances in a hundred.

@@ -1,8 +1,8 @@
 //! States, messages and commands with something wrong in them, more often than not.
 
+use crate::generator::messages::{ROOM, ROW, Sample};
+use crate::generator::rng::Rng;
 use crate::image::number_at;
-use crate::messages::{ROOM, ROW, Sample};
-use crate::rng::Rng;
 use independent::state::{HEAD_SIZE, SIZE};
 
 /// Numbers at and next to every edge that document 01 names.

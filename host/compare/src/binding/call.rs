@@ -34,7 +34,7 @@ pub type Step = fn(&mut Call) -> (u32, u32);
 
 /// The proved library's step.
 pub fn exported(call: &mut Call) -> (u32, u32) {
-    crate::step(call.n, call.own.0, call.event, call.a, call.b, call.state, call.input, call.out)
+    crate::binding::step(call.n, call.own.0, call.event, call.a, call.b, call.state, call.input, call.out)
 }
 
 /// The independent program's step.

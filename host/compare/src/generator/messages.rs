@@ -1,6 +1,6 @@
 //! Messages to compare with: every legal shape, and random ones, as the numbers and rows that the library takes.
 
-use crate::rng::Rng;
+use crate::generator::rng::Rng;
 use independent::message::{self, Append, Body, Message};
 use independent::{Entry, Hub, Place, Term};
 

@@ -1,11 +1,11 @@
 //! States that hubs come to on their own: a home in which messages are lost, repeated and reordered, and hubs start and restart at any time.
 
-use crate::both::{Call, Tally};
-use crate::call::{PROPOSE, RECEIVE, RESTART, SEND, START};
+use crate::binding::both::{Call, Tally};
+use crate::binding::call::{PROPOSE, RECEIVE, RESTART, SEND, START};
+use crate::generator::messages::ROOM;
+use crate::generator::rng::Rng;
+use crate::generator::states::{at_most, command};
 use crate::image::{Image, LEADER};
-use crate::messages::ROOM;
-use crate::rng::Rng;
-use crate::states::{at_most, command};
 use independent::{Group, message, state};
 
 /// The network keeps at most this many texts.

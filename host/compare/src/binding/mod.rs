@@ -1,0 +1,150 @@
+//! The proved library's functions, as safe Rust. Slices pass as a pointer and a length.
+
+pub mod both;
+pub mod call;
+pub mod watched;
+
+mod library {
+    unsafe extern "C" {
+        pub fn kritnamon_read_command(
+            bytes: *const u8,
+            length: usize,
+            numbers: *mut u32,
+            count: usize,
+        ) -> u32;
+        pub fn kritnamon_write_command(
+            motor: u32,
+            kind: u32,
+            duration: i32,
+            a: u32,
+            b: u32,
+            out: *mut u8,
+            length: usize,
+        ) -> u32;
+        pub fn kritnamon_state_size() -> usize;
+        pub fn kritnamon_places() -> u32;
+        pub fn kritnamon_output_size() -> usize;
+        pub fn kritnamon_chosen(state: *const u8, length: usize) -> u64;
+        pub fn kritnamon_reported(
+            state: *const u8,
+            length: usize,
+            place: u32,
+            out: *mut u8,
+            out_length: usize,
+        ) -> u32;
+        pub fn kritnamon_read_message(text: *const u8, length: usize, fields: *mut u32, count: usize) -> u64;
+        pub fn kritnamon_write_message(
+            numbers: *const u32,
+            count: usize,
+            rows: *const u8,
+            rows_length: usize,
+            out: *mut u8,
+            out_length: usize,
+        ) -> u64;
+        pub fn kritnamon_step(
+            n: u32,
+            own: u32,
+            event: u32,
+            a: u32,
+            b: u32,
+            state: *mut u8,
+            state_length: usize,
+            input: *const u8,
+            input_length: usize,
+            out: *mut u8,
+            out_length: usize,
+        ) -> u64;
+    }
+}
+
+/// Reads a command alone, into lent numbers: motor, kind, duration, a and b.
+pub fn read_command(bytes: &[u8], numbers: &mut [u32]) -> u32 {
+    // SAFETY: each pointer and length are those of one slice, the second lent to this call alone.
+    unsafe {
+        library::kritnamon_read_command(bytes.as_ptr(), bytes.len(), numbers.as_mut_ptr(), numbers.len())
+    }
+}
+
+/// Writes a command alone.
+pub fn write_command(motor: u32, kind: u32, duration: i32, a: u32, b: u32, out: &mut [u8]) -> u32 {
+    // SAFETY: pointer and length are those of one slice, lent to this call alone.
+    unsafe { library::kritnamon_write_command(motor, kind, duration, a, b, out.as_mut_ptr(), out.len()) }
+}
+
+/// The two halves of an answer: the outcome, and the number above it.
+fn halves(answer: u64) -> (u32, u32) {
+    (answer as u32, (answer >> 32) as u32)
+}
+
+/// Reads a message alone, into lent numbers: type, term, from, to, and its own. Answers the outcome and where the entry lines begin.
+pub fn read_message(text: &[u8], fields: &mut [u32]) -> (u32, u32) {
+    // SAFETY: each pointer and length are those of one slice, the second lent to this call alone.
+    halves(unsafe {
+        library::kritnamon_read_message(text.as_ptr(), text.len(), fields.as_mut_ptr(), fields.len())
+    })
+}
+
+/// Writes a message alone, from its numbers and the rows of its entries. Answers the outcome and how many bytes were written.
+pub fn write_message(numbers: &[u32], rows: &[u8], out: &mut [u8]) -> (u32, u32) {
+    // SAFETY: each pointer and length are those of one slice, the last lent to this call alone.
+    halves(unsafe {
+        library::kritnamon_write_message(
+            numbers.as_ptr(),
+            numbers.len(),
+            rows.as_ptr(),
+            rows.len(),
+            out.as_mut_ptr(),
+            out.len(),
+        )
+    })
+}
+
+/// Takes one step of hub `own` of `n`. Answers the outcome and how many bytes of message were written.
+#[allow(clippy::too_many_arguments)] // The call's form is given.
+pub fn step(
+    n: u32,
+    own: u32,
+    event: u32,
+    a: u32,
+    b: u32,
+    state: &mut [u8],
+    input: &[u8],
+    out: &mut [u8],
+) -> (u32, u32) {
+    // SAFETY: each pointer and length are those of one slice; state and output are lent to this call alone.
+    halves(unsafe {
+        library::kritnamon_step(
+            n,
+            own,
+            event,
+            a,
+            b,
+            state.as_mut_ptr(),
+            state.len(),
+            input.as_ptr(),
+            input.len(),
+            out.as_mut_ptr(),
+            out.len(),
+        )
+    })
+}
+
+/// The size of a state, the places of a log, and the least size of an output.
+pub fn sizes() -> (usize, u32, usize) {
+    // SAFETY: the functions take nothing.
+    unsafe {
+        (library::kritnamon_state_size(), library::kritnamon_places(), library::kritnamon_output_size())
+    }
+}
+
+/// The outcome, and how many commands a hub reports.
+pub fn chosen(state: &[u8]) -> (u32, u32) {
+    // SAFETY: pointer and length are those of one slice.
+    halves(unsafe { library::kritnamon_chosen(state.as_ptr(), state.len()) })
+}
+
+/// The command that a hub reports at a place.
+pub fn reported(state: &[u8], place: u32, out: &mut [u8]) -> u32 {
+    // SAFETY: each pointer and length are those of one slice, the second lent to this call alone.
+    unsafe { library::kritnamon_reported(state.as_ptr(), state.len(), place, out.as_mut_ptr(), out.len()) }
+}
