@@ -107,14 +107,14 @@ impl Rising {
     }
 }
 
-/// The outcome of a call; the number is document 01's.
+/// The outcome of a call. The number is document 01's, the name that of include/kritnamon.h.
 #[derive(Clone, Copy, Debug, PartialEq, Eq)]
 #[repr(u32)]
 pub enum Outcome {
     /// Done.
     Done = 0,
     /// N not 3, 5 or 7, own number not in 1..N, or an unknown event kind.
-    UnknownCall = 1,
+    NotKnown = 1,
     /// State bytes not of the layout's length, or state not legal.
     BadState = 2,
     /// Output too short.
@@ -122,26 +122,49 @@ pub enum Outcome {
     /// Message text not legal or too long.
     BadMessage = 4,
     /// Message from outside the group or from the hub itself, or to another hub.
-    Misaddressed = 5,
+    NotAddressed = 5,
     /// Term below own, or vote-request at own term.
     Stale = 6,
     /// A message of own term that no hub keeping to the rules sends.
-    Impossible = 7,
+    Contradicting = 7,
     /// Start at a leader; propose or send at another role.
     WrongRole = 8,
     /// Start at the last term there is.
-    LastTerm = 9,
+    NoTermLeft = 9,
     /// Command not 16 bytes or not legal.
     BadCommand = 10,
     /// Propose at a full log.
-    FullLog = 11,
+    LogFull = 11,
     /// Send to a number that is no peer's, or from a prev above the length.
     BadSend = 12,
     /// A message of own term that changes nothing and is not answered.
-    NoEffect = 13,
+    NothingNew = 13,
 }
 
 impl Outcome {
+    /// Every outcome, each at its number.
+    pub const ALL: [Outcome; 14] = [
+        Outcome::Done,
+        Outcome::NotKnown,
+        Outcome::BadState,
+        Outcome::ShortOutput,
+        Outcome::BadMessage,
+        Outcome::NotAddressed,
+        Outcome::Stale,
+        Outcome::Contradicting,
+        Outcome::WrongRole,
+        Outcome::NoTermLeft,
+        Outcome::BadCommand,
+        Outcome::LogFull,
+        Outcome::BadSend,
+        Outcome::NothingNew,
+    ];
+
+    /// The outcome of document 01's number; none where there is no such number.
+    pub fn numbered(number: u32) -> Option<Outcome> {
+        Outcome::ALL.get(number as usize).copied()
+    }
+
     /// Document 01's number.
     pub fn number(self) -> u32 {
         self as u32

@@ -6,6 +6,21 @@ use crate::kinds::{Answer, Group, Hub, LIMIT, OUTPUT_LEAST, Outcome, Place, Term
 use crate::message::{self, Append, Body, Entries, Message};
 use crate::state::{Role, Row, State, entry_of_row};
 
+/// The number of the event start.
+pub const START: u32 = 1;
+
+/// The number of the event propose.
+pub const PROPOSE: u32 = 2;
+
+/// The number of the event send.
+pub const SEND: u32 = 3;
+
+/// The number of the event restart.
+pub const RESTART: u32 = 4;
+
+/// The number of the event receive.
+pub const RECEIVE: u32 = 5;
+
 #[derive(Clone, Copy, PartialEq, Eq)]
 enum Event {
     Start,
@@ -18,11 +33,11 @@ enum Event {
 impl Event {
     fn numbered(number: u32) -> Option<Event> {
         Some(match number {
-            1 => Event::Start,
-            2 => Event::Propose,
-            3 => Event::Send,
-            4 => Event::Restart,
-            5 => Event::Receive,
+            START => Event::Start,
+            PROPOSE => Event::Propose,
+            SEND => Event::Send,
+            RESTART => Event::Restart,
+            RECEIVE => Event::Receive,
             _ => return None,
         })
     }
@@ -30,8 +45,8 @@ impl Event {
 
 /// Takes one step of hub `own` of `n`.
 ///
-/// Events: 1 start; 2 propose the command in `input`; 3 send to peer `a` from prev `b`; 4 restart;
-/// 5 receive the text in `input`. Arguments that an event does not use are not looked at.
+/// Events: `START`; `PROPOSE` the command in `input`; `SEND` to peer `a` from prev `b`; `RESTART`;
+/// `RECEIVE` the text in `input`. Arguments that an event does not use are not looked at.
 ///
 /// Every outcome but 0 leaves `state`. `out` changes only where the message is written, at its start.
 #[allow(clippy::too_many_arguments)] // The call's form is given.
@@ -64,8 +79,8 @@ pub fn step(
 
 /// Outcomes 1 to 3, which every event shares.
 fn gate(n: u32, own: u32, event: u32, bytes: &mut [u8], room: usize) -> Result<(Event, State<'_>), Outcome> {
-    let group = Group::new(n, own).ok_or(Outcome::UnknownCall)?;
-    let event = Event::numbered(event).ok_or(Outcome::UnknownCall)?;
+    let group = Group::new(n, own).ok_or(Outcome::NotKnown)?;
+    let event = Event::numbered(event).ok_or(Outcome::NotKnown)?;
     let state = match event {
         Event::Restart => State::open_kept(bytes, group),
         _ => State::open(bytes, group),
@@ -96,7 +111,7 @@ fn start(state: &mut State, out: &mut [u8]) -> Answer {
         return Answer::refused(Outcome::WrongRole);
     }
     let Some(term) = state.head.term.0.checked_add(1) else {
-        return Answer::refused(Outcome::LastTerm);
+        return Answer::refused(Outcome::NoTermLeft);
     };
     state.clear_lost();
     state.head.term = Term(term);
@@ -114,7 +129,7 @@ fn propose(state: &mut State, input: &[u8]) -> Answer {
         return Answer::refused(Outcome::BadCommand);
     };
     if state.head.length == Place(LIMIT) {
-        return Answer::refused(Outcome::FullLog);
+        return Answer::refused(Outcome::LogFull);
     }
     state.add(state.head.term, command);
     state.confirm(state.group.own(), state.head.length);
@@ -162,14 +177,14 @@ fn receive(state: &mut State, text: &[u8], out: &mut [u8]) -> Answer {
         Ok(message) => message,
         Err(outcome) => return Answer::refused(outcome),
     };
-    if misaddressed(state, &message) {
-        return Answer::refused(Outcome::Misaddressed);
+    if not_addressed(state, &message) {
+        return Answer::refused(Outcome::NotAddressed);
     }
     if stale(state, &message) {
         return refuse_stale(state, &message, out);
     }
-    if impossible(state, &message) {
-        return Answer::refused(Outcome::Impossible);
+    if contradicting(state, &message) {
+        return Answer::refused(Outcome::Contradicting);
     }
     let raised = message.term > state.head.term;
     if raised {
@@ -180,11 +195,11 @@ fn receive(state: &mut State, text: &[u8], out: &mut [u8]) -> Answer {
         Effect::Wrote(written) => Answer::done(written),
         Effect::Changed => Answer::done(0),
         Effect::Nothing if raised => Answer::done(0),
-        Effect::Nothing => Answer::refused(Outcome::NoEffect),
+        Effect::Nothing => Answer::refused(Outcome::NothingNew),
     }
 }
 
-fn misaddressed(state: &State, message: &Message) -> bool {
+fn not_addressed(state: &State, message: &Message) -> bool {
     let to_us = message.to == state.group.own() || message.to == Hub(0);
     !state.group.has_peer(message.from) || !to_us
 }
@@ -207,7 +222,7 @@ fn refuse_stale(state: &State, message: &Message, out: &mut [u8]) -> Answer {
 }
 
 /// What only a hub that breaks the rules could send at own term.
-fn impossible(state: &State, message: &Message) -> bool {
+fn contradicting(state: &State, message: &Message) -> bool {
     let head = &state.head;
     message.term == head.term
         && match (head.role, message.body) {

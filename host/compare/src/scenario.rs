@@ -18,7 +18,7 @@ use crate::binding::call::{Call, PROPOSE, RECEIVE, RESTART, SEND, START, Step};
 use crate::checker::view::{Command, Role, Row, STATE_SIZE, State, hex, put_number};
 use crate::checker::{Checker, Deed};
 use crate::generator::messages::ROOM;
-use independent::Hub;
+use independent::{Hub, Outcome};
 use std::collections::{BTreeMap, BTreeSet};
 use std::fmt::Write;
 
@@ -134,7 +134,7 @@ impl Stage {
             (self.step)(&mut Call { n, own: hub, event, a, b, state, input, out: &mut out });
         out.truncate(written as usize);
         // No machine stands behind a text that nobody wrote: only a refusal can be looked at, and it leaves the state.
-        if !forged || outcome == 0 {
+        if !forged || outcome == Outcome::Done {
             let deed = Deed { hub, event, input, outcome, state, text: &out };
             self.checker.see(&deed).map_err(|reason| format!("{reason:?}"))?;
         }
@@ -151,8 +151,8 @@ impl Stage {
 
     // ---- what is told
 
-    fn tell(&mut self, hub: Hub, outcome: u32, text: &[u8]) {
-        let _ = writeln!(self.told, "  outcome {outcome}");
+    fn tell(&mut self, hub: Hub, outcome: Outcome, text: &[u8]) {
+        let _ = writeln!(self.told, "  outcome {}", outcome.number());
         for line in String::from_utf8_lossy(text).lines() {
             let _ = writeln!(self.told, "  | {line}");
         }

@@ -5,6 +5,7 @@ use compare::broken::{VARIANTS, says_yes_to_lower_ballot};
 use compare::checker::paxos::Refusal::{NoMajorityReported, NotTheHighestVote, SecondProposal};
 use compare::checker::{Checker, Reason};
 use compare::generator::home::{Failure, Home, TURNS, size};
+use independent::Outcome;
 
 /// What catches each variant, in the order of `VARIANTS`: the first always does among these homes, the others may.
 const CAUGHT: [&[Reason]; 7] = [
@@ -64,7 +65,11 @@ fn every_variant_does_harm() {
 fn the_candidates_refusal_is_enough() {
     let refused = |seed| failure(says_yes_to_lower_ballot, seed, Checker::new).map(|failure| failure.reason);
     let reasons: Vec<Reason> = (1..=HOMES).filter_map(refused).collect();
-    assert!(!reasons.is_empty() && reasons.iter().all(|&reason| reason == Reason::Refused(7)), "{reasons:?}");
+    assert!(
+        !reasons.is_empty()
+            && reasons.iter().all(|&reason| reason == Reason::Refused(Outcome::Contradicting)),
+        "{reasons:?}"
+    );
     let harmed = |seed: &u64| failure(says_yes_to_lower_ballot, *seed, |_| Checker::of_reports()).is_some();
     assert_eq!((1..=HOMES).find(harmed), None);
 }

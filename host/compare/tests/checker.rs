@@ -3,7 +3,7 @@
 use compare::binding::call::{PROPOSE, RECEIVE, RESTART, START};
 use compare::checker::paxos::{Machine, Refusal};
 use compare::checker::{Checker, Deed, Reason};
-use independent::{Hub, Term};
+use independent::{Hub, Outcome, Term};
 
 const FOLLOWER: u8 = 0;
 const CANDIDATE: u8 = 1;
@@ -38,7 +38,14 @@ struct Watch(Checker);
 
 impl Watch {
     fn see(&mut self, hub: u32, event: u32, input: &[u8], state: &[u8], text: &str) -> Result<(), Reason> {
-        self.0.see(&Deed { hub: Hub(hub), event, input, outcome: 0, state, text: text.as_bytes() })
+        self.0.see(&Deed {
+            hub: Hub(hub),
+            event,
+            input,
+            outcome: Outcome::Done,
+            state,
+            text: text.as_bytes(),
+        })
     }
 
     /// Something happens to a hub that writes nothing.
@@ -191,9 +198,9 @@ fn ends_are_voted_for() {
 #[test]
 fn honest_hubs_refuse_no_honest_message() {
     let state = state(FOLLOWER, 0, 0, 0, &[]);
-    for outcome in 0..14 {
+    for outcome in Outcome::ALL {
         let deed = Deed { hub: Hub(1), event: RECEIVE, input: b"", outcome, state: &state, text: b"" };
-        let refused = [1, 2, 3, 4, 5, 7].contains(&outcome);
+        let refused = matches!(outcome.number(), 1..=5 | 7);
         let expected = if refused { Err(Reason::Refused(outcome)) } else { Ok(()) };
         assert_eq!(Checker::new(3).see(&deed), expected);
     }

@@ -3,17 +3,18 @@
 use compare::binding::watched::Watched;
 use compare::binding::{read_command, write_command};
 use compare::generator::rng::{Rng, rounds, seed};
+use independent::Outcome;
 use independent::command::{self, Case, Command};
 
 /// What stands in lent numbers before a call, so that a number left alone is seen.
 const BEFORE: [u32; 7] = [11, 12, 13, 14, 15, 16, 17];
 
 /// The answer, and the numbers left, that the independent program's reading comes to.
-fn told(read: Result<Command, independent::Outcome>, room: usize) -> (u32, Vec<u32>) {
+fn told(read: Result<Command, Outcome>, room: usize) -> (Outcome, Vec<u32>) {
     let mut numbers = BEFORE[..room].to_vec();
     let command = match read {
-        _ if room < 5 => return (3, numbers),
-        Err(outcome) => return (outcome.number(), numbers),
+        _ if room < 5 => return (Outcome::ShortOutput, numbers),
+        Err(outcome) => return (outcome, numbers),
         Ok(command) => command,
     };
     let (kind, a, b) = match command.case {
@@ -22,7 +23,7 @@ fn told(read: Result<Command, independent::Outcome>, room: usize) -> (u32, Vec<u
         Case::Ramp(from, to) => (2, from.to_bits(), to.to_bits()),
     };
     numbers[..5].copy_from_slice(&[command.motor.into(), kind, command.duration as u32, a, b]);
-    (0, numbers)
+    (Outcome::Done, numbers)
 }
 
 fn compare_read_into(bytes: &[u8], room: usize) {
@@ -116,11 +117,9 @@ fn compare_write(motor: u32, kind: u32, duration: i32, a: u32, b: u32, room: usi
     };
     let mut theirs = before.clone();
     let expected = match case {
-        Some(case) => {
-            command::write(&Command { motor: motor as u16, duration, case }, &mut theirs).outcome.number()
-        }
-        None if room < command::SIZE => 3,
-        None => 10,
+        Some(case) => command::write(&Command { motor: motor as u16, duration, case }, &mut theirs).outcome,
+        None if room < command::SIZE => Outcome::ShortOutput,
+        None => Outcome::BadCommand,
     };
     let mut ours = Watched::new(&before);
     let outcome = write_command(motor, kind, duration, a, b, ours.lend());
@@ -146,9 +145,9 @@ fn short_outputs_are_refused_alike() {
 fn what_is_written_is_read_back() {
     each_edge(|motor, kind, duration, a, b| {
         let mut bytes = [0; 16];
-        if write_command(motor, kind, duration, a, b, &mut bytes) == 0 {
+        if write_command(motor, kind, duration, a, b, &mut bytes) == Outcome::Done {
             let mut numbers = [0; 5];
-            assert_eq!(read_command(&bytes, &mut numbers), 0);
+            assert_eq!(read_command(&bytes, &mut numbers), Outcome::Done);
             assert_eq!(numbers, [motor, kind, duration as u32, a, b]);
         }
     });

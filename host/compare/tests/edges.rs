@@ -9,7 +9,7 @@ use compare::generator::rng::{Rng, seed};
 use compare::generator::{aimed, states};
 use compare::image::{CANDIDATE, Image, LEADER, number_at};
 use independent::state::{HEAD_SIZE, SIZE};
-use independent::{Group, LIMIT};
+use independent::{Group, LIMIT, Outcome};
 
 /// A hub in a state, with a message and a command for it.
 struct Scene {
@@ -82,7 +82,7 @@ fn every_changed_byte_of_a_head_is_answered_alike() {
         }
     }
     println!("{tally:?}");
-    assert!(tally.calls >= 10_000 && tally.outcomes[2] >= 5_000);
+    assert!(tally.calls >= 10_000 && tally.outcomes[Outcome::BadState] >= 5_000);
 }
 
 fn change_row(scene: &Scene, tally: &mut Tally, index: u32) {
@@ -117,7 +117,7 @@ fn every_changed_row_is_answered_alike() {
         (0..LIMIT).for_each(|index| change_row(&scene, &mut tally, index));
     }
     println!("{tally:?}");
-    assert!(tally.outcomes[2] >= 5_000 && tally.outcomes[0] >= 500);
+    assert!(tally.outcomes[Outcome::BadState] >= 5_000 && tally.outcomes[Outcome::Done] >= 500);
 }
 
 #[test]
@@ -136,7 +136,11 @@ fn every_byte_behind_the_rows_is_looked_at_alike() {
     }
     println!("{tally:?}");
     // A restart does not look at them.
-    assert!(unused > 0 && tally.outcomes[2] == unused && tally.done_by_event[RESTART as usize] == unused);
+    assert!(
+        unused > 0
+            && tally.outcomes[Outcome::BadState] == unused
+            && tally.done_by_event[RESTART as usize] == unused
+    );
 }
 
 #[test]
@@ -150,7 +154,7 @@ fn other_lengths_of_a_state_are_refused_alike() {
             (START..=RECEIVE).for_each(|event| drop(tally.compare(&scene.call(event, &bytes[..length]))));
         }
     }
-    assert_eq!(tally.outcomes[2], tally.calls);
+    assert_eq!(tally.outcomes[Outcome::BadState], tally.calls);
 }
 
 /// Small numbers, one next to a wrap-around, and some that are small once cut to fewer bits.
@@ -173,7 +177,7 @@ fn every_group_and_event_is_answered_alike() {
         }
     }
     println!("{tally:?}");
-    assert!(tally.outcomes[1] >= 10_000 && tally.outcomes[0] >= 300);
+    assert!(tally.outcomes[Outcome::NotKnown] >= 10_000 && tally.outcomes[Outcome::Done] >= 300);
 }
 
 #[test]
@@ -192,7 +196,8 @@ fn every_room_is_answered_alike() {
         }
     }
     println!("{tally:?}");
-    assert!([0, 2, 3, 4].iter().all(|&outcome| tally.outcomes[outcome] >= 30));
+    let given = [Outcome::Done, Outcome::BadState, Outcome::ShortOutput, Outcome::BadMessage];
+    assert!(given.iter().all(|&outcome| tally.outcomes[outcome] >= 30));
 }
 
 #[test]
@@ -209,7 +214,11 @@ fn every_send_is_answered_alike() {
         }
     }
     println!("{tally:?}");
-    assert!(tally.outcomes[0] >= 1_000 && tally.outcomes[12] >= 1_000 && tally.outcomes[8] >= 1_000);
+    assert!(
+        tally.outcomes[Outcome::Done] >= 1_000
+            && tally.outcomes[Outcome::BadSend] >= 1_000
+            && tally.outcomes[Outcome::WrongRole] >= 1_000
+    );
 }
 
 #[test]
@@ -228,7 +237,7 @@ fn every_changed_proposal_is_answered_alike() {
         }
     }
     println!("{tally:?}");
-    assert!(tally.outcomes[0] >= 200 && tally.outcomes[10] >= 2_000);
+    assert!(tally.outcomes[Outcome::Done] >= 200 && tally.outcomes[Outcome::BadCommand] >= 2_000);
 }
 
 /// Every legal shape of a message, wherever it was meant for, and some texts that are none.
@@ -246,7 +255,7 @@ fn every_shape_is_received_alike() {
         }
     }
     println!("{tally:?}");
-    assert!(tally.outcomes[0] >= 200 && tally.outcomes[5] >= 500);
+    assert!(tally.outcomes[Outcome::Done] >= 200 && tally.outcomes[Outcome::NotAddressed] >= 500);
 }
 
 #[test]
@@ -263,5 +272,5 @@ fn every_cut_text_is_received_alike() {
         }
     }
     println!("{tally:?}");
-    assert!(tally.outcomes[4] >= 3_000);
+    assert!(tally.outcomes[Outcome::BadMessage] >= 3_000);
 }

@@ -74,19 +74,19 @@ fn outcomes_are_those_of_the_rules() {
     let numbers = numbers();
     let pairs = [
         ("DONE", Outcome::Done),
-        ("NOT_KNOWN", Outcome::UnknownCall),
+        ("NOT_KNOWN", Outcome::NotKnown),
         ("BAD_STATE", Outcome::BadState),
         ("SHORT_OUTPUT", Outcome::ShortOutput),
         ("BAD_MESSAGE", Outcome::BadMessage),
-        ("NOT_ADDRESSED", Outcome::Misaddressed),
+        ("NOT_ADDRESSED", Outcome::NotAddressed),
         ("STALE", Outcome::Stale),
-        ("CONTRADICTING", Outcome::Impossible),
+        ("CONTRADICTING", Outcome::Contradicting),
         ("WRONG_ROLE", Outcome::WrongRole),
-        ("NO_TERM_LEFT", Outcome::LastTerm),
+        ("NO_TERM_LEFT", Outcome::NoTermLeft),
         ("BAD_COMMAND", Outcome::BadCommand),
-        ("LOG_FULL", Outcome::FullLog),
-        ("OUT_OF_RANGE", Outcome::BadSend),
-        ("NOTHING_NEW", Outcome::NoEffect),
+        ("LOG_FULL", Outcome::LogFull),
+        ("BAD_SEND", Outcome::BadSend),
+        ("NOTHING_NEW", Outcome::NothingNew),
     ];
     for (name, outcome) in pairs {
         assert_eq!(numbers[name], outcome.number(), "{name}");
@@ -114,7 +114,7 @@ fn a_message_has_its_numbers_where_the_header_says() {
     let numbers = numbers();
     for (name, text, own, count) in TEXTS {
         let mut read = [0; FIELDS];
-        assert_eq!(read_message(text.as_bytes(), &mut read).0, 0, "{name}");
+        assert_eq!(read_message(text.as_bytes(), &mut read).0, Outcome::Done, "{name}");
         let at = |place: &str| read[numbers[place] as usize];
         let to = if name == "VOTE_REQUEST" { numbers["ALL"] } else { 2 };
         assert_eq!([at("TYPE"), at("TERM"), at("FROM"), at("TO")], [numbers[name], 9, 1, to], "{name}");

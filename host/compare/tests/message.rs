@@ -4,7 +4,7 @@
 use compare::binding::read_message;
 use compare::generator::messages::{FIELDS, ROOM, fields_of, random, shapes};
 use compare::generator::rng::{Rng, rounds, seed};
-use independent::message;
+use independent::{Outcome, message};
 
 /// What stands in lent numbers before a call.
 const BEFORE: [u32; FIELDS + 2] = [91, 92, 93, 94, 95, 96, 97, 98, 99, 100];
@@ -18,9 +18,9 @@ fn compare_read(text: &[u8]) -> u64 {
     let expected = match reading.message {
         Ok(message) => {
             theirs[..FIELDS].copy_from_slice(&fields_of(&message));
-            0
+            Outcome::Done
         }
-        Err(outcome) => outcome.number(),
+        Err(outcome) => outcome,
     };
     let place = reading.entries.as_ptr() as usize - text.as_ptr() as usize;
     let shown = String::from_utf8_lossy(&text[..text.len().min(400)]);
@@ -198,7 +198,7 @@ fn few_numbers_are_refused() {
     let text = shapes()[0].text();
     for room in 0..FIELDS {
         let mut numbers = BEFORE[..room].to_vec();
-        assert_eq!(read_message(&text, &mut numbers), (3, 0));
+        assert_eq!(read_message(&text, &mut numbers), (Outcome::ShortOutput, 0));
         assert_eq!(numbers, BEFORE[..room]);
     }
 }

@@ -1,8 +1,9 @@
 //! What a hub reports: the proved library hands over what the independent program says, at places 1 to chosen and no others.
 
+use compare::binding::call::{PROPOSE, RECEIVE, START};
 use compare::binding::watched::Watched;
 use compare::binding::{chosen, reported, sizes};
-use independent::{Group, LIMIT, state, step};
+use independent::{Group, LIMIT, Outcome, state, step};
 
 const BUZZ: [u8; 16] = [0, 3, 0, 1, 0, 0, 0, 250, 0x3f, 0, 0, 0, 0, 0, 0, 0];
 const STOP: [u8; 16] = [0, 9, 0, 0, 0, 0, 0, 0, 0, 0, 0, 0, 0, 0, 0, 0];
@@ -11,22 +12,22 @@ const STOP: [u8; 16] = [0, 9, 0, 0, 0, 0, 0, 0, 0, 0, 0, 0, 0, 0, 0, 0];
 fn take(bytes: &mut [u8], event: u32, input: &[u8]) {
     let mut out = vec![0; 16_384];
     let answer = step::step(3, 1, event, 2, 0, bytes, input, &mut out);
-    assert_eq!(answer.outcome.number(), 0, "event {event}");
+    assert_eq!(answer.outcome, Outcome::Done, "event {event}");
 }
 
 /// Hub 1 of 3 leads with three commands, of which two are chosen.
 fn leader() -> Vec<u8> {
     let mut bytes = vec![0; state::SIZE];
-    take(&mut bytes, 1, b"");
-    take(&mut bytes, 5, b"type=vote-yes\nterm=1\nfrom=2\nto=1\nlast=0\nballot=0\ncount=0\n");
+    take(&mut bytes, START, b"");
+    take(&mut bytes, RECEIVE, b"type=vote-yes\nterm=1\nfrom=2\nto=1\nlast=0\nballot=0\ncount=0\n");
     for command in [BUZZ, STOP, BUZZ] {
-        take(&mut bytes, 2, &command);
+        take(&mut bytes, PROPOSE, &command);
     }
-    take(&mut bytes, 5, b"type=append-yes\nterm=1\nfrom=2\nto=1\nend=2\n");
+    take(&mut bytes, RECEIVE, b"type=append-yes\nterm=1\nfrom=2\nto=1\nend=2\n");
     bytes
 }
 
-fn ask(bytes: &[u8], place: u32, room: usize) -> (u32, Vec<u8>) {
+fn ask(bytes: &[u8], place: u32, room: usize) -> (Outcome, Vec<u8>) {
     let mut out = Watched::new(&vec![7; room]);
     let outcome = reported(bytes, place, out.lend());
     (outcome, out.bytes().to_vec())
@@ -43,10 +44,10 @@ fn places_up_to_chosen_are_reported() {
     let group = Group::new(3, 1).expect("a group");
     let expected: Vec<_> = state::reported(&bytes, group).expect("a legal state").copied().collect();
     assert_eq!(expected, [BUZZ, STOP]);
-    assert_eq!(chosen(&bytes), (0, 2));
+    assert_eq!(chosen(&bytes), (Outcome::Done, 2));
     for (index, command) in expected.iter().enumerate() {
         let whole = [&command[..], &[7; 4]].concat();
-        assert_eq!(ask(&bytes, index as u32 + 1, 20), (0, whole));
+        assert_eq!(ask(&bytes, index as u32 + 1, 20), (Outcome::Done, whole));
     }
 }
 
@@ -54,23 +55,23 @@ fn places_up_to_chosen_are_reported() {
 fn nothing_else_is_reported() {
     let bytes = leader();
     for place in [0, 3, 4, 256, 257, u32::MAX] {
-        assert_eq!(ask(&bytes, place, 16), (12, vec![7; 16]));
+        assert_eq!(ask(&bytes, place, 16), (Outcome::BadSend, vec![7; 16]));
     }
-    assert_eq!(chosen(&vec![0; state::SIZE]), (0, 0));
-    assert_eq!(ask(&vec![0; state::SIZE], 1, 16), (12, vec![7; 16]));
+    assert_eq!(chosen(&vec![0; state::SIZE]), (Outcome::Done, 0));
+    assert_eq!(ask(&vec![0; state::SIZE], 1, 16), (Outcome::BadSend, vec![7; 16]));
 }
 
 #[test]
 fn refusals_come_in_order() {
     let bytes = leader();
-    assert_eq!(ask(&bytes, 1, 15), (3, vec![7; 15]));
-    assert_eq!(ask(&bytes, 9, 15), (3, vec![7; 15]));
-    assert_eq!(ask(&bytes[1..], 1, 15), (2, vec![7; 15]));
+    assert_eq!(ask(&bytes, 1, 15), (Outcome::ShortOutput, vec![7; 15]));
+    assert_eq!(ask(&bytes, 9, 15), (Outcome::ShortOutput, vec![7; 15]));
+    assert_eq!(ask(&bytes[1..], 1, 15), (Outcome::BadState, vec![7; 15]));
     let mut damaged = bytes.clone();
     damaged[56 + 5] = 0; // place 1's motor
-    assert_eq!(ask(&damaged, 1, 16), (2, vec![7; 16]));
-    assert_eq!(chosen(&damaged), (2, 0));
+    assert_eq!(ask(&damaged, 1, 16), (Outcome::BadState, vec![7; 16]));
+    assert_eq!(chosen(&damaged), (Outcome::BadState, 0));
     let mut lost = bytes;
     lost[20..56].fill(0xff); // the lost parts are not looked at
-    assert_eq!(chosen(&lost), (0, 2));
+    assert_eq!(chosen(&lost), (Outcome::Done, 2));
 }

@@ -9,7 +9,7 @@ use compare::generator::reached::Home;
 use compare::generator::rng::{Rng, rounds, seed};
 use compare::generator::{aimed, states};
 use compare::image::{Image, LEADER};
-use independent::{Group, LIMIT};
+use independent::{Group, LIMIT, Outcome};
 
 /// The size of a group, and the own number.
 fn numbers_of(group: Group) -> [u32; 2] {
@@ -131,7 +131,10 @@ fn calls_at_states_made_and_reached_are_answered_alike() {
     calls_at_states_reached(&mut rng, &mut tally, 24 * rounds());
     println!("{tally:?}");
     assert!(tally.calls >= 100_000);
-    assert!(tally.outcomes.iter().all(|&count| count >= 1_000), "an outcome was rarely met");
+    assert!(
+        Outcome::ALL.iter().all(|&outcome| tally.outcomes[outcome] >= 1_000),
+        "an outcome was rarely met"
+    );
     assert!(tally.done_by_event[1..].iter().all(|&count| count >= 1_000), "an event was rarely done");
     assert!(tally.done_by_type[1..].iter().all(|&count| count >= 1_000), "a type was rarely taken");
 }

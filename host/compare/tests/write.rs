@@ -1,31 +1,32 @@
 //! Messages, written alone: the proved library and the independent program give the same answers and leave the same bytes, and what is
 //! written is read back. `KRITNAMON_ROUNDS=50` makes a longer run of it, `KRITNAMON_SEED` another one; the seed is printed.
 
+use compare::binding::outcomes::Outcomes;
 use compare::binding::watched::Watched;
 use compare::binding::{read_message, write_message};
 use compare::generator::damage::{self, EDGES, row_changes};
 use compare::generator::messages::{FIELDS, ROOM, ROW, Sample, message_of, random, rows, shapes};
 use compare::generator::rng::{Rng, rounds, seed};
 use compare::image::number_at;
-use independent::message;
+use independent::{Outcome, message};
 
 /// What the independent program answers to these numbers and rows, and writes: its writer takes a message, so what makes none is refused here.
-fn told(numbers: &[u32], rows: &[u8], out: &mut [u8]) -> (u32, u32) {
+fn told(numbers: &[u32], rows: &[u8], out: &mut [u8]) -> (Outcome, u32) {
     if out.len() < ROOM {
-        return (3, 0);
+        return (Outcome::ShortOutput, 0);
     }
-    let Ok(fields) = <[u32; FIELDS]>::try_from(numbers) else { return (4, 0) };
-    let Some(message) = message_of(&fields) else { return (4, 0) };
+    let Ok(fields) = <[u32; FIELDS]>::try_from(numbers) else { return (Outcome::BadMessage, 0) };
+    let Some(message) = message_of(&fields) else { return (Outcome::BadMessage, 0) };
     if rows.len() as u64 != u64::from(fields[7]) * ROW as u64 {
-        return (4, 0);
+        return (Outcome::BadMessage, 0);
     }
     let sample = Sample { fields, rows: rows.to_vec() };
     let answer = message::write(&message, sample.entries().into_iter(), out);
-    (answer.outcome.number(), answer.written as u32)
+    (answer.outcome, answer.written as u32)
 }
 
 /// Writes with both into so much room, compares, and gives the outcome. What was written is read back.
-fn compare_in(numbers: &[u32], rows: &[u8], room: usize) -> u32 {
+fn compare_in(numbers: &[u32], rows: &[u8], room: usize) -> Outcome {
     let before: Vec<u8> = (0..room).map(|index| index as u8 ^ 0x5a).collect();
     let mut theirs = before.clone();
     let expected = told(numbers, rows, &mut theirs);
@@ -33,26 +34,26 @@ fn compare_in(numbers: &[u32], rows: &[u8], room: usize) -> u32 {
     let answer = write_message(numbers, rows, ours.lend());
     assert_eq!(answer, expected, "{numbers:?}, {} bytes of rows, {room} of output", rows.len());
     assert!(ours.bytes() == theirs, "other bytes: {numbers:?}");
-    if answer.0 == 0 {
+    if answer.0 == Outcome::Done {
         let mut read = [0; FIELDS];
-        assert_eq!(read_message(&theirs[..answer.1 as usize], &mut read).0, 0, "{numbers:?}");
+        assert_eq!(read_message(&theirs[..answer.1 as usize], &mut read).0, Outcome::Done, "{numbers:?}");
         assert_eq!(read, numbers);
     }
     answer.0
 }
 
-fn compare(sample: &Sample) -> u32 {
+fn compare(sample: &Sample) -> Outcome {
     compare_in(&sample.fields, &sample.rows, ROOM)
 }
 
 #[test]
 fn every_shape_is_written_alike() {
     for sample in shapes() {
-        assert_eq!(compare(&sample), 0, "{:?}", sample.fields);
+        assert_eq!(compare(&sample), Outcome::Done, "{:?}", sample.fields);
     }
 }
 
-/// What is refused with 4, for each of its reasons: a term of 0, no such type, a number too few, a row too many.
+/// What is refused as no message, for each of its reasons: a term of 0, no such type, a number too few, a row too many.
 fn illegal(sample: &Sample) -> [(Vec<u32>, Vec<u8>); 4] {
     let Sample { fields, rows: entries } = sample;
     let with = |at: usize, number: u32| {
@@ -72,8 +73,10 @@ fn illegal(sample: &Sample) -> [(Vec<u32>, Vec<u8>); 4] {
 #[test]
 fn every_room_is_answered_alike() {
     for sample in shapes() {
-        for (room, refused) in [(0, 3), (1, 3), (ROOM - 1, 3), (ROOM, 4), (ROOM + 1, 4), (4 * ROOM, 4)] {
-            let legal = if refused == 3 { 3 } else { 0 };
+        for room in [0, 1, ROOM - 1, ROOM, ROOM + 1, 4 * ROOM] {
+            let short = room < ROOM;
+            let legal = if short { Outcome::ShortOutput } else { Outcome::Done };
+            let refused = if short { Outcome::ShortOutput } else { Outcome::BadMessage };
             assert_eq!(compare_in(&sample.fields, &sample.rows, room), legal);
             for (numbers, entries) in illegal(&sample) {
                 assert_eq!(compare_in(&numbers, &entries, room), refused, "{numbers:?}");
@@ -85,7 +88,7 @@ fn every_room_is_answered_alike() {
 /// Each number of each shape, numbers that its type does not have among them, at and next to every edge.
 #[test]
 fn every_changed_number_is_written_alike() {
-    let mut counts = [0; 5];
+    let mut counts = Outcomes::default();
     for sample in shapes() {
         for at in 0..FIELDS {
             let old = sample.fields[at];
@@ -94,12 +97,12 @@ fn every_changed_number_is_written_alike() {
             {
                 let mut changed = sample.clone();
                 changed.fields[at] = other;
-                counts[compare(&changed) as usize] += 1;
+                counts[compare(&changed)] += 1;
             }
         }
     }
     println!("{counts:?}");
-    assert!(counts[0] >= 1_000 && counts[4] >= 1_000);
+    assert!(counts[Outcome::Done] >= 1_000 && counts[Outcome::BadMessage] >= 1_000);
 }
 
 #[test]
@@ -109,9 +112,14 @@ fn a_number_that_the_type_does_not_have_is_refused() {
         for &at in absent[sample.fields[0] as usize - 1] {
             let mut changed = sample.clone();
             changed.fields[at] = 1;
-            assert_eq!(compare(&changed), 4, "{:?}", changed.fields);
+            assert_eq!(compare(&changed), Outcome::BadMessage, "{:?}", changed.fields);
             // Not even with the row that the number would count.
-            assert_eq!(compare_in(&changed.fields, &rows(1, 1, 1), ROOM), 4, "{:?}", changed.fields);
+            assert_eq!(
+                compare_in(&changed.fields, &rows(1, 1, 1), ROOM),
+                Outcome::BadMessage,
+                "{:?}",
+                changed.fields
+            );
         }
     }
 }
@@ -121,7 +129,7 @@ fn other_counts_of_numbers_are_refused() {
     for sample in shapes() {
         let longer = [&sample.fields[..], &[0, 0]].concat();
         for count in [0, 1, 7, 9, 10] {
-            assert_eq!(compare_in(&longer[..count], &sample.rows, ROOM), 4);
+            assert_eq!(compare_in(&longer[..count], &sample.rows, ROOM), Outcome::BadMessage);
         }
     }
 }
@@ -140,7 +148,7 @@ fn other_lengths_of_rows_are_refused() {
             length + ROW,
             length + 2 * ROW,
         ] {
-            let expected = if other == length { 0 } else { 4 };
+            let expected = if other == length { Outcome::Done } else { Outcome::BadMessage };
             assert_eq!(compare_in(&sample.fields, &longer[..other], ROOM), expected, "{:?}", sample.fields);
         }
     }
@@ -153,23 +161,23 @@ fn counts_that_wrap_around_are_refused() {
         for wrap in [1 << 30, 1 << 31, 3 << 30] {
             let mut changed = sample.clone();
             changed.fields[7] += wrap;
-            assert_eq!(compare(&changed), 4);
+            assert_eq!(compare(&changed), Outcome::BadMessage);
         }
     }
 }
 
-fn change_row(sample: &Sample, start: usize, counts: &mut [u32; 5]) {
+fn change_row(sample: &Sample, start: usize, counts: &mut Outcomes) {
     let term = number_at(&sample.rows, start);
     for (at, number) in row_changes(term) {
         let mut changed = sample.clone();
         changed.rows[start + at..start + at + 4].copy_from_slice(&number.to_be_bytes());
-        counts[compare(&changed) as usize] += 1;
+        counts[compare(&changed)] += 1;
     }
 }
 
 #[test]
 fn every_changed_row_is_written_alike() {
-    let mut counts = [0; 5];
+    let mut counts = Outcomes::default();
     for sample in shapes() {
         // Of a long list the first and last rows, and some between.
         let last = sample.rows.len().saturating_sub(ROW);
@@ -179,21 +187,21 @@ fn every_changed_row_is_written_alike() {
         }
     }
     println!("{counts:?}");
-    assert!(counts[0] >= 500 && counts[4] >= 2_000);
+    assert!(counts[Outcome::Done] >= 500 && counts[Outcome::BadMessage] >= 2_000);
 }
 
 #[test]
 fn random_messages_are_written_alike() {
     let mut rng = Rng::seeded(seed());
-    let mut counts = [0; 5];
+    let mut counts = Outcomes::default();
     for _ in 0..20_000 * rounds() {
         let mut sample = random(&mut rng);
-        assert_eq!(compare(&sample), 0);
+        assert_eq!(compare(&sample), Outcome::Done);
         for _ in 0..1 + rng.below(2) {
             damage::sample(&mut rng, &mut sample);
-            counts[compare(&sample) as usize] += 1;
+            counts[compare(&sample)] += 1;
         }
     }
     println!("{counts:?}");
-    assert!(counts[0] >= 1_000 && counts[4] >= 1_000);
+    assert!(counts[Outcome::Done] >= 1_000 && counts[Outcome::BadMessage] >= 1_000);
 }

@@ -4,12 +4,7 @@
 #![allow(dead_code)] // Each test file uses its own part.
 
 use independent::step::step;
-
-pub const START: u32 = 1;
-pub const PROPOSE: u32 = 2;
-pub const SEND: u32 = 3;
-pub const RESTART: u32 = 4;
-pub const RECEIVE: u32 = 5;
+pub use independent::step::{PROPOSE, RECEIVE, RESTART, SEND, START};
 
 pub const FOLLOWER: u8 = 0;
 pub const CANDIDATE: u8 = 1;

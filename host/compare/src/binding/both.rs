@@ -1,10 +1,11 @@
 //! One call of the step made to both programs, every lent byte compared; and a count of what came of the calls.
 
 use crate::binding::call::RECEIVE;
+use crate::binding::outcomes::Outcomes;
 use crate::binding::watched::Watched;
 use crate::generator::messages::fields_of;
 use independent::state::HEAD_SIZE;
-use independent::{message, step};
+use independent::{Outcome, message, step};
 
 /// A call of the step, with all that it lends. `room` is the size of the output.
 #[derive(Clone, Copy)]
@@ -21,7 +22,7 @@ pub struct Call<'a> {
 
 /// What both programs answered: the outcome, the state after it, and the message.
 pub struct After {
-    pub outcome: u32,
+    pub outcome: Outcome,
     pub state: Vec<u8>,
     pub message: Vec<u8>,
 }
@@ -42,7 +43,7 @@ impl Call<'_> {
         let mut theirs = [self.state.to_vec(), out];
         let [state, lent] = &mut theirs;
         let answer = step::step(n, own, event, a, b, state, self.input, lent);
-        let expected = (answer.outcome.number(), answer.written as u32);
+        let expected = (answer.outcome, answer.written as u32);
         assert!(answered == expected, "{answered:?}, not {expected:?}, is answered to {}", self.shown());
         let [state, lent] = theirs;
         assert!(ours[0].bytes() == state, "another state after {}", self.shown());
@@ -66,7 +67,7 @@ impl Call<'_> {
 #[derive(Debug, Default)]
 pub struct Tally {
     pub calls: u64,
-    pub outcomes: [u64; 14],
+    pub outcomes: Outcomes,
     pub done_by_event: [u64; 6],
     pub done_by_type: [u64; 7],
 }
@@ -76,8 +77,8 @@ impl Tally {
     pub fn compare(&mut self, call: &Call) -> After {
         let after = call.compare();
         self.calls += 1;
-        self.outcomes[after.outcome as usize] += 1;
-        if after.outcome == 0 {
+        self.outcomes[after.outcome] += 1;
+        if after.outcome == Outcome::Done {
             self.done_by_event[call.event as usize] += 1;
             if call.event == RECEIVE {
                 let message = message::read(call.input).message.expect("a message that was taken");

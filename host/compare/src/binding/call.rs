@@ -1,13 +1,7 @@
 //! One call of a hub's step, in one form for the proved library, for the independent program, and for broken variants of it.
 
-use independent::Hub;
-
-/// The events' numbers.
-pub const START: u32 = 1;
-pub const PROPOSE: u32 = 2;
-pub const SEND: u32 = 3;
-pub const RESTART: u32 = 4;
-pub const RECEIVE: u32 = 5;
+pub use independent::step::{PROPOSE, RECEIVE, RESTART, SEND, START};
+use independent::{Hub, Outcome};
 
 /// What a hub is called with.
 pub struct Call<'a> {
@@ -30,17 +24,17 @@ impl Call<'_> {
 }
 
 /// Something that takes a hub's step: answers the outcome and how many bytes of message were written.
-pub type Step = fn(&mut Call) -> (u32, u32);
+pub type Step = fn(&mut Call) -> (Outcome, u32);
 
 /// The proved library's step.
-pub fn exported(call: &mut Call) -> (u32, u32) {
+pub fn exported(call: &mut Call) -> (Outcome, u32) {
     crate::binding::step(call.n, call.own.0, call.event, call.a, call.b, call.state, call.input, call.out)
 }
 
 /// The independent program's step.
-pub fn independent(call: &mut Call) -> (u32, u32) {
+pub fn independent(call: &mut Call) -> (Outcome, u32) {
     let answer = independent::step::step(
         call.n, call.own.0, call.event, call.a, call.b, call.state, call.input, call.out,
     );
-    (answer.outcome.number(), answer.written as u32)
+    (answer.outcome, answer.written as u32)
 }

@@ -2,7 +2,10 @@
 
 pub mod both;
 pub mod call;
+pub mod outcomes;
 pub mod watched;
+
+use independent::Outcome;
 
 mod library {
     unsafe extern "C" {
@@ -57,27 +60,33 @@ mod library {
     }
 }
 
+fn named(number: u32) -> Outcome {
+    Outcome::numbered(number).expect("one of the outcomes")
+}
+
 /// Reads a command alone, into lent numbers: motor, kind, duration, a and b.
-pub fn read_command(bytes: &[u8], numbers: &mut [u32]) -> u32 {
+pub fn read_command(bytes: &[u8], numbers: &mut [u32]) -> Outcome {
     // SAFETY: each pointer and length are those of one slice, the second lent to this call alone.
-    unsafe {
+    named(unsafe {
         library::kritnamon_read_command(bytes.as_ptr(), bytes.len(), numbers.as_mut_ptr(), numbers.len())
-    }
+    })
 }
 
 /// Writes a command alone.
-pub fn write_command(motor: u32, kind: u32, duration: i32, a: u32, b: u32, out: &mut [u8]) -> u32 {
+pub fn write_command(motor: u32, kind: u32, duration: i32, a: u32, b: u32, out: &mut [u8]) -> Outcome {
     // SAFETY: pointer and length are those of one slice, lent to this call alone.
-    unsafe { library::kritnamon_write_command(motor, kind, duration, a, b, out.as_mut_ptr(), out.len()) }
+    named(unsafe {
+        library::kritnamon_write_command(motor, kind, duration, a, b, out.as_mut_ptr(), out.len())
+    })
 }
 
 /// The two halves of an answer: the outcome, and the number above it.
-fn halves(answer: u64) -> (u32, u32) {
-    (answer as u32, (answer >> 32) as u32)
+fn halves(answer: u64) -> (Outcome, u32) {
+    (named(answer as u32), (answer >> 32) as u32)
 }
 
 /// Reads a message alone, into lent numbers: type, term, from, to, and its own. Answers the outcome and where the entry lines begin.
-pub fn read_message(text: &[u8], fields: &mut [u32]) -> (u32, u32) {
+pub fn read_message(text: &[u8], fields: &mut [u32]) -> (Outcome, u32) {
     // SAFETY: each pointer and length are those of one slice, the second lent to this call alone.
     halves(unsafe {
         library::kritnamon_read_message(text.as_ptr(), text.len(), fields.as_mut_ptr(), fields.len())
@@ -85,7 +94,7 @@ pub fn read_message(text: &[u8], fields: &mut [u32]) -> (u32, u32) {
 }
 
 /// Writes a message alone, from its numbers and the rows of its entries. Answers the outcome and how many bytes were written.
-pub fn write_message(numbers: &[u32], rows: &[u8], out: &mut [u8]) -> (u32, u32) {
+pub fn write_message(numbers: &[u32], rows: &[u8], out: &mut [u8]) -> (Outcome, u32) {
     // SAFETY: each pointer and length are those of one slice, the last lent to this call alone.
     halves(unsafe {
         library::kritnamon_write_message(
@@ -110,7 +119,7 @@ pub fn step(
     state: &mut [u8],
     input: &[u8],
     out: &mut [u8],
-) -> (u32, u32) {
+) -> (Outcome, u32) {
     // SAFETY: each pointer and length are those of one slice; state and output are lent to this call alone.
     halves(unsafe {
         library::kritnamon_step(
@@ -138,13 +147,15 @@ pub fn sizes() -> (usize, u32, usize) {
 }
 
 /// The outcome, and how many commands a hub reports.
-pub fn chosen(state: &[u8]) -> (u32, u32) {
+pub fn chosen(state: &[u8]) -> (Outcome, u32) {
     // SAFETY: pointer and length are those of one slice.
     halves(unsafe { library::kritnamon_chosen(state.as_ptr(), state.len()) })
 }
 
 /// The command that a hub reports at a place.
-pub fn reported(state: &[u8], place: u32, out: &mut [u8]) -> u32 {
+pub fn reported(state: &[u8], place: u32, out: &mut [u8]) -> Outcome {
     // SAFETY: each pointer and length are those of one slice, the second lent to this call alone.
-    unsafe { library::kritnamon_reported(state.as_ptr(), state.len(), place, out.as_mut_ptr(), out.len()) }
+    named(unsafe {
+        library::kritnamon_reported(state.as_ptr(), state.len(), place, out.as_mut_ptr(), out.len())
+    })
 }

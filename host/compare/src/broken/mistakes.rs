@@ -7,6 +7,7 @@ use crate::broken::{
     votes_for_lower_ballot,
 };
 use crate::checker::view::{Kind, LOST, Role, State, confirmed_at, put_number};
+use independent::Outcome;
 
 /// Each scenario with its mistake; some scenarios are about several.
 pub const MISTAKES: [(&str, Step); 14] = [
@@ -27,7 +28,7 @@ pub const MISTAKES: [(&str, Step); 14] = [
 ];
 
 /// Whoever sends an append leads, so the hub does not.
-fn steps_down(call: &mut Call) -> (u32, u32) {
+fn steps_down(call: &mut Call) -> (Outcome, u32) {
     if heard(call, Kind::Append).is_some_and(|(state, _)| state.role == Role::Leader) {
         call.state[LOST].fill(0);
     }
@@ -35,7 +36,7 @@ fn steps_down(call: &mut Call) -> (u32, u32) {
 }
 
 /// An end beyond the leader's log counts as its whole log.
-fn takes_end_beyond_log(call: &mut Call) -> (u32, u32) {
+fn takes_end_beyond_log(call: &mut Call) -> (Outcome, u32) {
     match heard(call, Kind::AppendYes) {
         Some((state, message)) if state.role == Role::Leader => {
             let end = message.number("end").min(state.log.len() as u32);
@@ -47,21 +48,21 @@ fn takes_end_beyond_log(call: &mut Call) -> (u32, u32) {
 }
 
 /// A refusal says how far the follower is, whenever it comes.
-fn lowers_confirmed(call: &mut Call) -> (u32, u32) {
+fn lowers_confirmed(call: &mut Call) -> (Outcome, u32) {
     match heard(call, Kind::AppendNo) {
         Some((state, message)) if state.role == Role::Leader && message.term() == state.term => {
             put_number(call.state, confirmed_at(message.from()), message.number("length"));
-            (0, 0)
+            (Outcome::Done, 0)
         }
         _ => independent(call),
     }
 }
 
 /// Every append is acknowledged, with the end of the follower's own log.
-fn acknowledges_own_end(call: &mut Call) -> (u32, u32) {
+fn acknowledges_own_end(call: &mut Call) -> (Outcome, u32) {
     let appended = heard(call, Kind::Append);
     let (outcome, written) = independent(call);
-    let (Some((_, append)), Some(state), 0) = (appended, State::read(call.state), outcome) else {
+    let (Some((_, append)), Some(state), Outcome::Done) = (appended, State::read(call.state), outcome) else {
         return (outcome, written);
     };
     let (term, from, to, end) = (state.term.0, call.own.0, append.from().0, state.log.len());
@@ -71,7 +72,7 @@ fn acknowledges_own_end(call: &mut Call) -> (u32, u32) {
 }
 
 /// A follower says yes to whoever asks at its term, as if it had not heard of that term.
-fn votes_at_own_term(call: &mut Call) -> (u32, u32) {
+fn votes_at_own_term(call: &mut Call) -> (Outcome, u32) {
     match heard(call, Kind::VoteRequest) {
         Some((state, message)) if state.role == Role::Follower && message.term() == state.term => {
             put_number(call.state, 0, state.term.0 - 1);

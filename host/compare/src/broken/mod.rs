@@ -9,7 +9,7 @@ use crate::checker::view::{
     BALLOT_AT, CHOSEN_AT, Kind, LENGTH_AT, LOST, Message, ROW_SIZE, Role, State, number_at, put_number, role,
     row_at,
 };
-use independent::{Hub, Place, Term};
+use independent::{Hub, Outcome, Place, Term};
 
 /// Each variant by its name.
 pub const VARIANTS: [(&str, Step); 7] = [
@@ -30,7 +30,7 @@ pub(crate) fn heard(call: &Call, kind: Kind) -> Option<(State, Message)> {
 }
 
 /// As Raft does: whatever stands behind the append's last entry is removed, once the entry at prev agrees.
-pub(crate) fn cuts_longer_log(call: &mut Call) -> (u32, u32) {
+pub(crate) fn cuts_longer_log(call: &mut Call) -> (Outcome, u32) {
     if let Some((state, message)) = heard(call, Kind::Append) {
         let (prev, prevterm) = (message.number("prev") as usize, Term(message.number("prevterm")));
         let joins = prev == 0 || state.log.get(prev - 1).is_some_and(|entry| entry.0 == prevterm);
@@ -53,7 +53,7 @@ fn cut(bytes: &mut [u8], state: &State, end: u32) {
 }
 
 /// Votes are counted and not their voters: a voter heard before counts as one that is still missing.
-pub(crate) fn counts_vote_twice(call: &mut Call) -> (u32, u32) {
+pub(crate) fn counts_vote_twice(call: &mut Call) -> (Outcome, u32) {
     let Some((state, message)) = heard(call, Kind::VoteYes) else { return independent(call) };
     if state.role != Role::Candidate || !state.voters.contains(&message.from()) {
         return independent(call);
@@ -64,7 +64,7 @@ pub(crate) fn counts_vote_twice(call: &mut Call) -> (u32, u32) {
 }
 
 /// The asked hub does not compare ballots. That alone is safe: the candidate refuses its vote with 7.
-pub fn says_yes_to_lower_ballot(call: &mut Call) -> (u32, u32) {
+pub fn says_yes_to_lower_ballot(call: &mut Call) -> (Outcome, u32) {
     match heard(call, Kind::VoteRequest) {
         Some((state, message)) if message.term() > state.term => {
             let ballot = state.ballot.0.max(message.number("ballot"));
@@ -76,7 +76,7 @@ pub fn says_yes_to_lower_ballot(call: &mut Call) -> (u32, u32) {
 }
 
 /// Neither the asked hub nor the candidate compares ballots.
-pub(crate) fn votes_for_lower_ballot(call: &mut Call) -> (u32, u32) {
+pub(crate) fn votes_for_lower_ballot(call: &mut Call) -> (Outcome, u32) {
     match heard(call, Kind::VoteYes) {
         Some((state, message)) if state.role == Role::Candidate && message.term() == state.term => {
             // With the highest ballot that a candidate may have, it takes any vote. A leader has its term for its ballot.
@@ -92,10 +92,10 @@ pub(crate) fn votes_for_lower_ballot(call: &mut Call) -> (u32, u32) {
 }
 
 /// At each place that was held and is told of again, the pair with the lesser ballot stays.
-pub(crate) fn keeps_lesser_ballot(call: &mut Call) -> (u32, u32) {
+pub(crate) fn keeps_lesser_ballot(call: &mut Call) -> (Outcome, u32) {
     let before = heard(call, Kind::VoteYes);
     let answer = independent(call);
-    let Some((state, message)) = before.filter(|_| answer.0 == 0) else { return answer };
+    let Some((state, message)) = before.filter(|_| answer.0 == Outcome::Done) else { return answer };
     let ballot = Term(message.number("ballot"));
     let places = (state.log.len() as u32 + 1..).map(Place);
     for (place, (held, entry)) in places.zip(state.gathered.iter().zip(&message.entries)) {
@@ -110,10 +110,10 @@ pub(crate) fn keeps_lesser_ballot(call: &mut Call) -> (u32, u32) {
     answer
 }
 
-pub(crate) fn chooses_with_one_less(call: &mut Call) -> (u32, u32) {
+pub(crate) fn chooses_with_one_less(call: &mut Call) -> (Outcome, u32) {
     let heard = heard(call, Kind::AppendYes);
     let answer = independent(call);
-    if let (Some(_), Some(state), 0) = (heard, State::read(call.state), answer.0) {
+    if let (Some(_), Some(state), Outcome::Done) = (heard, State::read(call.state), answer.0) {
         let mut confirmed = state.confirmed;
         confirmed.sort_by(|one, other| other.cmp(one));
         let too_few = call.n as usize / 2;
@@ -123,7 +123,7 @@ pub(crate) fn chooses_with_one_less(call: &mut Call) -> (u32, u32) {
 }
 
 /// One place more is acknowledged than the append had.
-fn acknowledges_too_much(call: &mut Call) -> (u32, u32) {
+fn acknowledges_too_much(call: &mut Call) -> (Outcome, u32) {
     let (outcome, written) = independent(call);
     match Message::read(&call.out[..written as usize]) {
         Some(message) if message.kind == Kind::AppendYes && message.number("end") < 256 => {
@@ -137,7 +137,7 @@ fn acknowledges_too_much(call: &mut Call) -> (u32, u32) {
 }
 
 /// The ballot is not stored: after a restart it is taken to be the term of the log's last entry.
-fn forgets_ballot(call: &mut Call) -> (u32, u32) {
+fn forgets_ballot(call: &mut Call) -> (Outcome, u32) {
     let answer = independent(call);
     if let (RESTART, Some(state)) = (call.event, State::read(call.state)) {
         put_number(call.state, BALLOT_AT, state.log.last().map_or(0, |entry| entry.0.0));

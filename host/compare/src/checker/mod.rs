@@ -7,16 +7,26 @@ pub mod paxos;
 pub mod view;
 
 use crate::binding::call::{PROPOSE, START};
-use independent::{Hub, Place, Term};
+use independent::{Hub, Outcome, Place, Term};
 use paxos::{Machine, Refusal};
 use std::collections::BTreeSet;
 use view::{Command, Kind, Message, Role, State};
 
+/// The outcomes that no hub of an honest home gives to a text that a hub of it wrote to it.
+const NEVER_GIVEN: [Outcome; 6] = [
+    Outcome::NotKnown,
+    Outcome::BadState,
+    Outcome::ShortOutput,
+    Outcome::BadMessage,
+    Outcome::NotAddressed,
+    Outcome::Contradicting,
+];
+
 /// What is wrong with a step.
 #[derive(Clone, Copy, Debug, PartialEq, Eq)]
 pub enum Reason {
-    /// An outcome that no hub of an honest home gives to messages that hubs wrote to it.
-    Refused(u32),
+    /// An outcome that honest hubs never give each other.
+    Refused(Outcome),
     /// Bytes that are no state's, or a text that is no message's.
     NoImage,
     /// A step that MultiPaxos cannot take.
@@ -58,7 +68,7 @@ pub struct Deed<'a> {
     pub hub: Hub,
     pub event: u32,
     pub input: &'a [u8],
-    pub outcome: u32,
+    pub outcome: Outcome,
     /// The hub's bytes after the step.
     pub state: &'a [u8],
     /// What it wrote; nothing if empty.
@@ -117,7 +127,7 @@ impl Checker {
         let asked = if deed.event == PROPOSE { deed.input.try_into().ok() } else { None };
         self.reports.asked.extend(asked);
         if let Some(machine) = &mut self.machine {
-            ensure(!matches!(deed.outcome, 1..=5 | 7), Reason::Refused(deed.outcome))?;
+            ensure(!NEVER_GIVEN.contains(&deed.outcome), Reason::Refused(deed.outcome))?;
             let message = read_text(deed.text)?;
             asked.into_iter().for_each(|command| machine.ask(command));
             follow(machine, deed, &state, message.as_ref())?;
@@ -147,7 +157,7 @@ fn follow(
         machine.raise(deed.hub, state.term)?;
     }
     let says_yes = message.is_some_and(|message| message.kind == Kind::VoteYes);
-    if says_yes || deed.event == START && deed.outcome == 0 {
+    if says_yes || deed.event == START && deed.outcome == Outcome::Done {
         machine.report(deed.hub, state.term)?;
     }
     cast_votes(machine, deed.hub, state)?;

@@ -2,19 +2,20 @@
 //! together. A `Checker` looks at every step. All that happens comes from a seed: the same seed gives the same run.
 
 use crate::binding::call::{Call, PROPOSE, RECEIVE, RESTART, SEND, START, Step};
+use crate::binding::outcomes::Outcomes;
 use crate::checker::view::{self, Command, Kind, Message, Role, STATE_SIZE, State};
 use crate::checker::{Checker, Deed, Reason};
 use crate::generator::messages::ROOM;
 use crate::generator::network::{LONELY, Letter, Network, WEATHERS};
 use crate::generator::rng::Rng;
-use independent::{Hub, Place};
+use independent::{Hub, Outcome, Place};
 use std::collections::VecDeque;
 
 /// What happened in runs, so that runs in which little happens are noticed.
 #[derive(Clone, Debug, Default)]
 pub struct Tally {
     pub steps: u64,
-    pub outcomes: [u64; 14],
+    pub outcomes: Outcomes,
     /// Messages received with effect, by type.
     pub received: [u64; 6],
     /// How often a hub began to lead, and how often after another one.
@@ -33,7 +34,7 @@ impl Tally {
     pub fn add(&mut self, other: &Tally) {
         let sum =
             |mine: &mut [u64], more: &[u64]| mine.iter_mut().zip(more).for_each(|(own, add)| *own += add);
-        sum(&mut self.outcomes, &other.outcomes);
+        self.outcomes.add(&other.outcomes);
         sum(&mut self.received, &other.received);
         self.steps += other.steps;
         self.led += other.led;
@@ -326,18 +327,18 @@ impl Home {
         Ok(())
     }
 
-    fn note(&mut self, before: &[u8], hub: Hub, event: u32, input: &[u8], outcome: u32) {
+    fn note(&mut self, before: &[u8], hub: Hub, event: u32, input: &[u8], outcome: Outcome) {
         self.tally.steps += 1;
-        self.tally.outcomes[outcome as usize] += 1;
+        self.tally.outcomes[outcome] += 1;
         let message = if event == RECEIVE { Message::read(input) } else { None };
         let heard = message.as_ref().map_or(String::new(), |message| {
             format!(" {} of term {} from hub {}", message.name(), message.term().0, message.from().0)
         });
-        self.trail.push_back(format!("hub {} event {event}{heard}: outcome {outcome}", hub.0));
+        self.trail.push_back(format!("hub {} event {event}{heard}: {outcome:?}", hub.0));
         if self.trail.len() > TRAIL {
             self.trail.pop_front();
         }
-        if outcome == 0 {
+        if outcome == Outcome::Done {
             self.note_effect(before, hub, message.as_ref());
         }
     }

@@ -2,7 +2,7 @@
 
 use crate::generator::rng::Rng;
 use independent::message::{self, Append, Body, Message};
-use independent::{Entry, Hub, Place, Term};
+use independent::{Entry, Hub, Outcome, Place, Term};
 
 /// How many numbers a message has: type, term, from, to, up to three of its own, and the count of its entries.
 pub const FIELDS: usize = 8;
@@ -92,7 +92,7 @@ impl Sample {
         let mut out = vec![0; ROOM];
         let message = message_of(&self.fields).expect("a legal sample");
         let answer = message::write(&message, self.entries().into_iter(), &mut out);
-        assert_eq!(answer.outcome.number(), 0, "a legal sample: {:?}", self.fields);
+        assert_eq!(answer.outcome, Outcome::Done, "a legal sample: {:?}", self.fields);
         out.truncate(answer.written);
         out
     }

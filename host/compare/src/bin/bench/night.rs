@@ -5,7 +5,7 @@ use crate::table;
 use compare::binding::call::{Call, PROPOSE, RECEIVE, SEND, START, Step, exported, independent};
 use compare::generator::messages::ROOM;
 use compare::image::number_at;
-use independent::{Hub, state};
+use independent::{Hub, Outcome, state};
 
 const COMMANDS: u32 = 200;
 
@@ -36,7 +36,7 @@ impl Night {
         let state = &mut self.states[LEADER as usize - 1];
         let call = &mut Call { n: self.n, own: Hub(LEADER), event, a, b, state, input, out: &mut self.asked };
         let (outcome, written) = (self.step)(call);
-        assert_eq!(outcome, 0, "event {event} of the leader");
+        assert_eq!(outcome, Outcome::Done, "event {event} of the leader");
         written as usize
     }
 
@@ -49,9 +49,9 @@ impl Night {
             step(&mut Call { n: *n, own: Hub(own), event: RECEIVE, a: 0, b: 0, state, input, out })
         };
         let (outcome, written) = hears(peer, &asked[..length], answered);
-        assert_eq!(outcome, 0, "hub {peer} hears the leader");
+        assert_eq!(outcome, Outcome::Done, "hub {peer} hears the leader");
         let (outcome, _) = hears(LEADER, &answered[..written as usize], closed);
-        assert!(outcome == 0 || outcome == 13, "the leader hears hub {peer}");
+        assert!([Outcome::Done, Outcome::NothingNew].contains(&outcome), "the leader hears hub {peer}");
     }
 
     fn elect(&mut self) {

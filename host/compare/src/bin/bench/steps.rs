@@ -6,7 +6,7 @@ use compare::binding::both::Call;
 use compare::binding::call::{PROPOSE, RECEIVE, RESTART, SEND, START};
 use compare::generator::messages::{ROOM, Sample, rows};
 use compare::image::{CANDIDATE, Image, LEADER, rows_of_bytes};
-use independent::{LIMIT, step};
+use independent::{LIMIT, Outcome, step};
 use std::hint::black_box;
 
 const LENGTHS: [u32; 4] = [0, 16, 100, LIMIT];
@@ -141,7 +141,7 @@ pub fn all() -> impl Iterator<Item = Step> {
 /// Both programs' time of a step that both take alike.
 fn measure(made: &Step) -> (f64, f64) {
     let call = made.call();
-    assert_eq!(call.compare().outcome, 0, "the step takes effect");
+    assert_eq!(call.compare().outcome, Outcome::Done, "the step takes effect");
     let Call { n, own, event, a, b, state, input, .. } = call;
     let [mut out, mut other] = [vec![0; ROOM], vec![0; ROOM]];
     let ours = |state: &mut [u8]| {
