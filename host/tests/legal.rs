@@ -209,7 +209,7 @@ fn every_byte_of_a_head_changed() {
             for value in values {
                 let mut changed = state.clone();
                 changed[place] = value;
-                let expected = image_of(&changed).is_some_and(|image| legal(&image, at));
+                let expected = Image::read(&changed).is_some_and(|image| legal(&image, at));
                 assert_eq!(at.accepts(&changed), expected, "byte {place}: {value}");
                 refusals += u32::from(!expected);
             }
@@ -238,7 +238,7 @@ fn every_row_byte_counts() {
         for bit in 0..8 {
             let mut changed = state.clone();
             changed[place] ^= 1 << bit;
-            let expected = image_of(&changed).is_some_and(|image| legal(&image, At(5, 1)));
+            let expected = Image::read(&changed).is_some_and(|image| legal(&image, At(5, 1)));
             assert_eq!(At(5, 1).accepts(&changed), expected, "byte {place}, bit {bit}");
         }
     }

@@ -493,7 +493,7 @@ fn chosen_by_majority() {
     let five = At(5, 2);
     let chosen = |from, length, before: &[u32], was| {
         let leads = leader(3, was, &terms, before);
-        let after = image_of(&five.receive(&leads, &end(3, from, 2, length)).state).unwrap();
+        let after = Image::read(&five.receive(&leads, &end(3, from, 2, length)).state).unwrap();
         assert_eq!(after.confirmed[from as usize - 1], length);
         after.chosen
     };

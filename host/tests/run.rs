@@ -123,7 +123,7 @@ impl Home {
         let before = self.hubs[own as usize - 1].clone();
         let after = call(self.n, own, event, a, b, &before, input, OUT_SIZE);
         assert!(![1, 2, 3, 4, 5, 7, 9, 10].contains(&after.outcome), "outcome {}", after.outcome);
-        let image = image_of(&after.state).expect("an image");
+        let image = Image::read(&after.state).expect("an image");
         assert!(legal(&image, At(self.n, own)), "not legal: {image:?}");
         self.tally.outcomes[after.outcome as usize] += 1;
         self.tally.elections += u32::from(before[20] == CANDIDATE && image.role == LEADER);
@@ -286,7 +286,7 @@ fn any_state_and_any_text() {
             continue;
         }
         let after = at.receive(&hub, &dice.text(n, at.1));
-        let image = image_of(&after.state).expect("an image");
+        let image = Image::read(&after.state).expect("an image");
         assert!(legal(&image, at), "turn {turn}: {hub:?} to {image:?}");
         assert!(after.text.is_empty() || message::read(after.text.as_bytes()).message.is_ok());
         assert!(image.term >= hub.term && image.ballot >= hub.ballot && image.chosen >= hub.chosen);

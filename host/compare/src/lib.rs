@@ -10,5 +10,4 @@ pub mod binding;
 pub mod broken;
 pub mod checker;
 pub mod generator;
-pub mod image;
 pub mod scenario;

@@ -15,9 +15,10 @@
 //! ```
 
 use crate::binding::call::{Call, PROPOSE, RECEIVE, RESTART, SEND, START, Step};
-use crate::checker::view::{Command, Role, Row, STATE_SIZE, State, hex, put_number};
+use crate::checker::message::hex;
 use crate::checker::{Checker, Deed};
 use crate::generator::messages::ROOM;
+use image::{CANDIDATE, Command, Image, LEADER, Row, STATE_SIZE, put_number};
 use independent::{Hub, Outcome};
 use std::collections::{BTreeMap, BTreeSet};
 use std::fmt::Write;
@@ -156,7 +157,7 @@ impl Stage {
         for line in String::from_utf8_lossy(text).lines() {
             let _ = writeln!(self.told, "  | {line}");
         }
-        let state = State::read(&self.states[hub.0 as usize - 1]);
+        let state = Image::read(&self.states[hub.0 as usize - 1]);
         let shown = state.map_or("no state".to_string(), |state| shown(&state, self.states.len()));
         let _ = writeln!(self.told, "  hub {}: {shown}", hub.0);
     }
@@ -164,9 +165,9 @@ impl Stage {
     fn ended(mut self) -> String {
         self.told += "at the end\n";
         for (hub, bytes) in (1..).zip(&self.states) {
-            let reported: Vec<String> = State::read(bytes)
+            let reported: Vec<String> = Image::read(bytes)
                 .iter()
-                .flat_map(State::reported)
+                .flat_map(Image::reported)
                 .map(|command| name_of(&command))
                 .collect();
             let _ = writeln!(self.told, "  hub {hub} reports {}", list(&reported));
@@ -181,30 +182,28 @@ fn list(words: &[String]) -> String {
 }
 
 /// A state in a line; the lost parts as the role has them.
-fn shown(state: &State, hubs: usize) -> String {
+fn shown(state: &Image, hubs: usize) -> String {
     let kept = format!(
         "term {}, ballot {}, chosen {}, log {}",
-        state.term.0,
-        state.ballot.0,
-        state.chosen.0,
+        state.term,
+        state.ballot,
+        state.chosen,
         rows(&state.log)
     );
     let numbers = |all: &[u32]| list(&all.iter().map(u32::to_string).collect::<Vec<_>>());
     match state.role {
-        Role::Follower => format!("follower, {kept}"),
-        Role::Candidate => {
-            let voters: Vec<u32> = state.voters.iter().map(|hub| hub.0).collect();
+        CANDIDATE => {
+            let voters: Vec<u32> =
+                (1..).zip(state.voters).filter(|told| told.1 == 1).map(|told| told.0).collect();
             format!("candidate, {kept}, voters {}, gathered {}", numbers(&voters), rows(&state.gathered))
         }
-        Role::Leader => {
-            let confirmed: Vec<u32> = state.confirmed[..hubs].iter().map(|length| length.0).collect();
-            format!("leader, {kept}, confirmed {}", numbers(&confirmed))
-        }
+        LEADER => format!("leader, {kept}, confirmed {}", numbers(&state.confirmed[..hubs])),
+        _ => format!("follower, {kept}"),
     }
 }
 
 fn rows(rows: &[Row]) -> String {
-    list(&rows.iter().map(|(term, command)| format!("{}:{}", term.0, name_of(command))).collect::<Vec<_>>())
+    list(&rows.iter().map(|(term, command)| format!("{term}:{}", name_of(command))).collect::<Vec<_>>())
 }
 
 // ---- commands by name

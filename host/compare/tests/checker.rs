@@ -3,11 +3,8 @@
 use compare::binding::call::{PROPOSE, RECEIVE, RESTART, START};
 use compare::checker::paxos::{Machine, Refusal};
 use compare::checker::{Checker, Deed, Reason};
+use image::{CANDIDATE, FOLLOWER, Image, LEADER};
 use independent::{Hub, Outcome, Term};
-
-const FOLLOWER: u8 = 0;
-const CANDIDATE: u8 = 1;
-const LEADER: u8 = 2;
 
 /// A command for each number.
 fn command(number: u8) -> [u8; 16] {
@@ -16,16 +13,8 @@ fn command(number: u8) -> [u8; 16] {
 
 /// A state's bytes; the log has the commands of these numbers, all of term 1. The checker does not look at the other parts.
 fn state(role: u8, term: u32, ballot: u32, chosen: u32, log: &[u8]) -> Vec<u8> {
-    let head = [term, ballot, chosen, log.len() as u32];
-    let mut bytes: Vec<u8> = head.iter().flat_map(|number| number.to_be_bytes()).collect();
-    bytes.resize(56, 0);
-    bytes[20] = role;
-    for &number in log {
-        bytes.extend([0, 0, 0, 1]);
-        bytes.extend(command(number));
-    }
-    bytes.resize(5_176, 0);
-    bytes
+    let log = log.iter().map(|&number| (1, command(number))).collect();
+    Image { term, ballot, chosen, role, log, ..Image::default() }.bytes()
 }
 
 /// The text of a message to hub 1 with these further lines.

@@ -4,11 +4,10 @@
 use compare::binding::both::{Call, Tally};
 use compare::binding::call::{PROPOSE, RECEIVE, RESTART, SEND, START};
 use compare::generator::damage::row_changes;
-use compare::generator::messages::{ROOM, ROW, shapes};
+use compare::generator::messages::{ROOM, shapes};
 use compare::generator::rng::{Rng, seed};
 use compare::generator::{aimed, states};
-use compare::image::{CANDIDATE, Image, LEADER, number_at};
-use independent::state::{HEAD_SIZE, SIZE};
+use image::{CANDIDATE, HEAD_SIZE, Image, LEADER, ROW_SIZE, STATE_SIZE, number_at, put_number};
 use independent::{Group, LIMIT, Outcome};
 
 /// A hub in a state, with a message and a command for it.
@@ -87,11 +86,11 @@ fn every_changed_byte_of_a_head_is_answered_alike() {
 
 fn change_row(scene: &Scene, tally: &mut Tally, index: u32) {
     let bytes = scene.image.bytes();
-    let start = HEAD_SIZE + index as usize * ROW;
+    let start = HEAD_SIZE + index as usize * ROW_SIZE;
     let term = number_at(&bytes, start);
     for (at, number) in row_changes(term) {
         let mut changed = bytes.clone();
-        changed[start + at..start + at + 4].copy_from_slice(&number.to_be_bytes());
+        put_number(&mut changed, start + at, number);
         scene.at_bytes(tally, &changed);
     }
 }
@@ -126,9 +125,9 @@ fn every_byte_behind_the_rows_is_looked_at_alike() {
     let mut unused = 0;
     for scene in scenes(&mut Rng::seeded(seed())).iter().take(3) {
         let mut bytes = scene.image.bytes();
-        let used = HEAD_SIZE + (scene.image.log.len() + scene.image.gathered.len()) * ROW;
-        unused += (SIZE - used) as u64;
-        for at in used..SIZE {
+        let used = HEAD_SIZE + (scene.image.log.len() + scene.image.gathered.len()) * ROW_SIZE;
+        unused += (STATE_SIZE - used) as u64;
+        for at in used..STATE_SIZE {
             bytes[at] = 1;
             scene.at_bytes(&mut tally, &bytes);
             bytes[at] = 0;
@@ -148,9 +147,17 @@ fn other_lengths_of_a_state_are_refused_alike() {
     let mut tally = Tally::default();
     for scene in scenes(&mut Rng::seeded(seed())) {
         let bytes = [scene.image.bytes(), scene.image.bytes()].concat();
-        for length in
-            [0, 1, HEAD_SIZE - 1, HEAD_SIZE, HEAD_SIZE + ROW, SIZE - ROW, SIZE - 1, SIZE + 1, 2 * SIZE]
-        {
+        for length in [
+            0,
+            1,
+            HEAD_SIZE - 1,
+            HEAD_SIZE,
+            HEAD_SIZE + ROW_SIZE,
+            STATE_SIZE - ROW_SIZE,
+            STATE_SIZE - 1,
+            STATE_SIZE + 1,
+            2 * STATE_SIZE,
+        ] {
             (START..=RECEIVE).for_each(|event| drop(tally.compare(&scene.call(event, &bytes[..length]))));
         }
     }
@@ -168,7 +175,7 @@ fn every_group_and_event_is_answered_alike() {
     let scenes = scenes(&mut Rng::seeded(seed()));
     for scene in &scenes {
         // A fresh hub's bytes are legal in every group, so that all that is refused is refused for its numbers.
-        for state in [scene.image.bytes(), vec![0; SIZE]] {
+        for state in [scene.image.bytes(), vec![0; STATE_SIZE]] {
             for (n, own) in numbers().flat_map(|n| numbers().map(move |own| (n, own))) {
                 for event in numbers() {
                     tally.compare(&Call { n, own, event, ..scene.call(event, &state) });

@@ -1,7 +1,8 @@
 //! The C header says what the library has: its functions are the archive's, its numbers those of the library and of the independent program.
 
 use compare::binding::{read_message, sizes};
-use compare::generator::messages::{FIELDS, ROOM, ROW};
+use compare::generator::messages::{FIELDS, ROOM};
+use image::ROW_SIZE;
 use independent::{Outcome, command, state, step};
 use std::collections::{BTreeMap, BTreeSet};
 use std::path::{Path, PathBuf};
@@ -65,7 +66,7 @@ fn sizes_are_those_of_the_library() {
     assert_eq!((size("STATE_SIZE"), numbers["PLACES"], size("TEXT_MOST")), sizes());
     assert_eq!(
         (size("COMMAND_SIZE"), size("ROW_SIZE"), size("MESSAGE_NUMBERS")),
-        (command::SIZE, ROW, FIELDS)
+        (command::SIZE, ROW_SIZE, FIELDS)
     );
 }
 

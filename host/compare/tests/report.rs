@@ -3,6 +3,7 @@
 use compare::binding::call::{PROPOSE, RECEIVE, START};
 use compare::binding::watched::Watched;
 use compare::binding::{chosen, reported, sizes};
+use image::{HEAD_SIZE, LOST, STATE_SIZE};
 use independent::{Group, LIMIT, Outcome, state, step};
 
 const BUZZ: [u8; 16] = [0, 3, 0, 1, 0, 0, 0, 250, 0x3f, 0, 0, 0, 0, 0, 0, 0];
@@ -17,7 +18,7 @@ fn take(bytes: &mut [u8], event: u32, input: &[u8]) {
 
 /// Hub 1 of 3 leads with three commands, of which two are chosen.
 fn leader() -> Vec<u8> {
-    let mut bytes = vec![0; state::SIZE];
+    let mut bytes = vec![0; STATE_SIZE];
     take(&mut bytes, START, b"");
     take(&mut bytes, RECEIVE, b"type=vote-yes\nterm=1\nfrom=2\nto=1\nlast=0\nballot=0\ncount=0\n");
     for command in [BUZZ, STOP, BUZZ] {
@@ -35,7 +36,7 @@ fn ask(bytes: &[u8], place: u32, room: usize) -> (Outcome, Vec<u8>) {
 
 #[test]
 fn sizes_are_those_of_the_layout() {
-    assert_eq!(sizes(), (state::SIZE, LIMIT, 16_384));
+    assert_eq!(sizes(), (STATE_SIZE, LIMIT, 16_384));
 }
 
 #[test]
@@ -57,8 +58,8 @@ fn nothing_else_is_reported() {
     for place in [0, 3, 4, 256, 257, u32::MAX] {
         assert_eq!(ask(&bytes, place, 16), (Outcome::BadSend, vec![7; 16]));
     }
-    assert_eq!(chosen(&vec![0; state::SIZE]), (Outcome::Done, 0));
-    assert_eq!(ask(&vec![0; state::SIZE], 1, 16), (Outcome::BadSend, vec![7; 16]));
+    assert_eq!(chosen(&vec![0; STATE_SIZE]), (Outcome::Done, 0));
+    assert_eq!(ask(&vec![0; STATE_SIZE], 1, 16), (Outcome::BadSend, vec![7; 16]));
 }
 
 #[test]
@@ -68,10 +69,10 @@ fn refusals_come_in_order() {
     assert_eq!(ask(&bytes, 9, 15), (Outcome::ShortOutput, vec![7; 15]));
     assert_eq!(ask(&bytes[1..], 1, 15), (Outcome::BadState, vec![7; 15]));
     let mut damaged = bytes.clone();
-    damaged[56 + 5] = 0; // place 1's motor
+    damaged[HEAD_SIZE + 5] = 0; // place 1's motor
     assert_eq!(ask(&damaged, 1, 16), (Outcome::BadState, vec![7; 16]));
     assert_eq!(chosen(&damaged), (Outcome::BadState, 0));
     let mut lost = bytes;
-    lost[20..56].fill(0xff); // the lost parts are not looked at
+    lost[LOST].fill(0xff); // the lost parts are not looked at
     assert_eq!(chosen(&lost), (Outcome::Done, 2));
 }

@@ -8,7 +8,7 @@ use compare::generator::messages::{ROOM, random};
 use compare::generator::reached::Home;
 use compare::generator::rng::{Rng, rounds, seed};
 use compare::generator::{aimed, states};
-use compare::image::{Image, LEADER};
+use image::{Image, LEADER};
 use independent::{Group, LIMIT, Outcome};
 
 /// The size of a group, and the own number.

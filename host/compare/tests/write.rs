@@ -5,9 +5,9 @@ use compare::binding::outcomes::Outcomes;
 use compare::binding::watched::Watched;
 use compare::binding::{read_message, write_message};
 use compare::generator::damage::{self, EDGES, row_changes};
-use compare::generator::messages::{FIELDS, ROOM, ROW, Sample, message_of, random, rows, shapes};
+use compare::generator::messages::{FIELDS, ROOM, Sample, message_of, random, rows, shapes};
 use compare::generator::rng::{Rng, rounds, seed};
-use compare::image::number_at;
+use image::{ROW_SIZE, number_at, put_number};
 use independent::{Outcome, message};
 
 /// What the independent program answers to these numbers and rows, and writes: its writer takes a message, so what makes none is refused here.
@@ -17,7 +17,7 @@ fn told(numbers: &[u32], rows: &[u8], out: &mut [u8]) -> (Outcome, u32) {
     }
     let Ok(fields) = <[u32; FIELDS]>::try_from(numbers) else { return (Outcome::BadMessage, 0) };
     let Some(message) = message_of(&fields) else { return (Outcome::BadMessage, 0) };
-    if rows.len() as u64 != u64::from(fields[7]) * ROW as u64 {
+    if rows.len() as u64 != u64::from(fields[7]) * ROW_SIZE as u64 {
         return (Outcome::BadMessage, 0);
     }
     let sample = Sample { fields, rows: rows.to_vec() };
@@ -142,11 +142,11 @@ fn other_lengths_of_rows_are_refused() {
         for other in [
             0,
             1,
-            length.saturating_sub(ROW),
+            length.saturating_sub(ROW_SIZE),
             length.saturating_sub(1),
             length + 1,
-            length + ROW,
-            length + 2 * ROW,
+            length + ROW_SIZE,
+            length + 2 * ROW_SIZE,
         ] {
             let expected = if other == length { Outcome::Done } else { Outcome::BadMessage };
             assert_eq!(compare_in(&sample.fields, &longer[..other], ROOM), expected, "{:?}", sample.fields);
@@ -170,7 +170,7 @@ fn change_row(sample: &Sample, start: usize, counts: &mut Outcomes) {
     let term = number_at(&sample.rows, start);
     for (at, number) in row_changes(term) {
         let mut changed = sample.clone();
-        changed.rows[start + at..start + at + 4].copy_from_slice(&number.to_be_bytes());
+        put_number(&mut changed.rows, start + at, number);
         counts[compare(&changed)] += 1;
     }
 }
@@ -180,9 +180,11 @@ fn every_changed_row_is_written_alike() {
     let mut counts = Outcomes::default();
     for sample in shapes() {
         // Of a long list the first and last rows, and some between.
-        let last = sample.rows.len().saturating_sub(ROW);
-        let starts = (0..sample.rows.len()).step_by(ROW);
-        for start in starts.filter(|&start| start < 2 * ROW || start + ROW > last || start % 41 == 0) {
+        let last = sample.rows.len().saturating_sub(ROW_SIZE);
+        let starts = (0..sample.rows.len()).step_by(ROW_SIZE);
+        for start in
+            starts.filter(|&start| start < 2 * ROW_SIZE || start + ROW_SIZE > last || start % 41 == 0)
+        {
             change_row(&sample, start, &mut counts);
         }
     }

@@ -1,16 +1,12 @@
-//! What the tests share: images built by hand, calls with every lent byte watched, and a second opinion on legality.
+//! What the tests share: images, calls with every lent byte watched, and a second opinion on legality.
 //! Nothing here uses the library's own reading or writing of states.
 
-#![allow(dead_code)] // Each test file uses its own part.
+#![allow(dead_code, unused_imports)] // Each test file uses its own part.
 
+pub use image::{CANDIDATE, Command, FOLLOWER, Image, LEADER, STATE_SIZE, number_at};
 use independent::step::step;
 pub use independent::step::{PROPOSE, RECEIVE, RESTART, SEND, START};
 
-pub const FOLLOWER: u8 = 0;
-pub const CANDIDATE: u8 = 1;
-pub const LEADER: u8 = 2;
-
-pub const STATE_SIZE: usize = 5_176;
 pub const OUT_SIZE: usize = 16_384;
 
 /// What the output holds before each call.
@@ -21,8 +17,6 @@ pub const HEX: &str = "00030001000000fa3f00000000000000";
 
 pub const APPEND: &str = "type=append\nterm=1\nfrom=1\nto=2\nprev=0\nprevterm=0\nchosen=0\ncount=1\n\
     entry=1:00030001000000fa3f00000000000000\n";
-
-pub type Command = [u8; 16];
 
 pub fn bytes(hex: &str) -> Command {
     std::array::from_fn(|at| u8::from_str_radix(&hex[2 * at..2 * at + 2], 16).unwrap())
@@ -39,36 +33,6 @@ pub fn command(number: u32) -> Command {
 
 pub fn entry(term: u32, number: u32) -> String {
     format!("entry={term}:{}\n", hex(&command(number)))
-}
-
-/// A state in plain parts.
-#[derive(Clone, Debug, Default, PartialEq)]
-pub struct Image {
-    pub term: u32,
-    pub ballot: u32,
-    pub chosen: u32,
-    pub role: u8,
-    pub voters: [u8; 7],
-    pub confirmed: [u32; 7],
-    pub log: Vec<(u32, Command)>,
-    pub gathered: Vec<(u32, Command)>,
-}
-
-impl Image {
-    pub fn bytes(&self) -> Vec<u8> {
-        let head = [self.term, self.ballot, self.chosen, self.log.len() as u32, self.gathered.len() as u32];
-        let mut image: Vec<u8> = head.iter().flat_map(|part| part.to_be_bytes()).collect();
-        image.push(self.role);
-        image.extend(self.voters);
-        image.extend(self.confirmed.iter().flat_map(|length| length.to_be_bytes()));
-        for (term, command) in self.log.iter().chain(&self.gathered) {
-            image.extend(term.to_be_bytes());
-            image.extend(command);
-        }
-        assert!(image.len() <= STATE_SIZE);
-        image.resize(STATE_SIZE, 0);
-        image
-    }
 }
 
 /// A log with these terms; the commands are numbered by place.
@@ -180,38 +144,8 @@ pub fn refused(after: &After, outcome: u32) {
 
 // ---- a second opinion on legality, sentence by sentence from 01
 
-fn number(state: &[u8], at: usize) -> u32 {
-    u32::from_be_bytes(state[at..at + 4].try_into().unwrap())
-}
-
-fn rows(state: &[u8], from: u32, to: u32) -> Vec<(u32, Command)> {
-    let start = |row: u32| 56 + 20 * row as usize;
-    (from..to)
-        .map(|row| (number(state, start(row)), state[start(row) + 4..start(row) + 20].try_into().unwrap()))
-        .collect()
-}
-
-/// The image of these bytes, if there is one.
-pub fn image_of(state: &[u8]) -> Option<Image> {
-    let (length, gathered) = (number(state, 12), number(state, 16));
-    if length > 256 || gathered > 256 || length + gathered > 256 {
-        return None;
-    }
-    let image = Image {
-        term: number(state, 0),
-        ballot: number(state, 4),
-        chosen: number(state, 8),
-        role: state[20],
-        voters: state[21..28].try_into().unwrap(),
-        confirmed: std::array::from_fn(|hub| number(state, 28 + 4 * hub)),
-        log: rows(state, 0, length),
-        gathered: rows(state, length, length + gathered),
-    };
-    (image.bytes() == state).then_some(image)
-}
-
 pub fn command_legal(command: &Command) -> bool {
-    let part = |at: usize| number(command, at);
+    let part = |at: usize| number_at(command, at);
     let (motor, kind) = (part(0) >> 16, part(0) & 0xffff);
     let gain = |bits: u32| {
         let value = f32::from_bits(bits);

@@ -4,7 +4,7 @@ use crate::binding::call::RECEIVE;
 use crate::binding::outcomes::Outcomes;
 use crate::binding::watched::Watched;
 use crate::generator::messages::fields_of;
-use independent::state::HEAD_SIZE;
+use image::HEAD_SIZE;
 use independent::{Outcome, message, step};
 
 /// A call of the step, with all that it lends. `room` is the size of the output.

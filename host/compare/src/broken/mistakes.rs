@@ -6,7 +6,8 @@ use crate::broken::{
     chooses_with_one_less, counts_vote_twice, cuts_longer_log, heard, keeps_lesser_ballot,
     votes_for_lower_ballot,
 };
-use crate::checker::view::{Kind, LOST, Role, State, confirmed_at, put_number};
+use crate::checker::message::Kind;
+use image::{FOLLOWER, Image, LEADER, LOST, TERM_AT, confirmed_at, put_number};
 use independent::Outcome;
 
 /// Each scenario with its mistake; some scenarios are about several.
@@ -29,7 +30,7 @@ pub const MISTAKES: [(&str, Step); 14] = [
 
 /// Whoever sends an append leads, so the hub does not.
 fn steps_down(call: &mut Call) -> (Outcome, u32) {
-    if heard(call, Kind::Append).is_some_and(|(state, _)| state.role == Role::Leader) {
+    if heard(call, Kind::Append).is_some_and(|(state, _)| state.role == LEADER) {
         call.state[LOST].fill(0);
     }
     independent(call)
@@ -38,8 +39,8 @@ fn steps_down(call: &mut Call) -> (Outcome, u32) {
 /// An end beyond the leader's log counts as its whole log.
 fn takes_end_beyond_log(call: &mut Call) -> (Outcome, u32) {
     match heard(call, Kind::AppendYes) {
-        Some((state, message)) if state.role == Role::Leader => {
-            let end = message.number("end").min(state.log.len() as u32);
+        Some((state, message)) if state.role == LEADER => {
+            let end = message.number("end").min(state.length());
             let text = message.with_number("end", end).text();
             independent(&mut call.with_input(text.as_bytes()))
         }
@@ -50,8 +51,8 @@ fn takes_end_beyond_log(call: &mut Call) -> (Outcome, u32) {
 /// A refusal says how far the follower is, whenever it comes.
 fn lowers_confirmed(call: &mut Call) -> (Outcome, u32) {
     match heard(call, Kind::AppendNo) {
-        Some((state, message)) if state.role == Role::Leader && message.term() == state.term => {
-            put_number(call.state, confirmed_at(message.from()), message.number("length"));
+        Some((state, message)) if state.role == LEADER && message.term().0 == state.term => {
+            put_number(call.state, confirmed_at(message.from().0), message.number("length"));
             (Outcome::Done, 0)
         }
         _ => independent(call),
@@ -62,10 +63,10 @@ fn lowers_confirmed(call: &mut Call) -> (Outcome, u32) {
 fn acknowledges_own_end(call: &mut Call) -> (Outcome, u32) {
     let appended = heard(call, Kind::Append);
     let (outcome, written) = independent(call);
-    let (Some((_, append)), Some(state), Outcome::Done) = (appended, State::read(call.state), outcome) else {
+    let (Some((_, append)), Some(state), Outcome::Done) = (appended, Image::read(call.state), outcome) else {
         return (outcome, written);
     };
-    let (term, from, to, end) = (state.term.0, call.own.0, append.from().0, state.log.len());
+    let (term, from, to, end) = (state.term, call.own.0, append.from().0, state.length());
     let text = format!("type=append-yes\nterm={term}\nfrom={from}\nto={to}\nend={end}\n");
     call.out[..text.len()].copy_from_slice(text.as_bytes());
     (outcome, text.len() as u32)
@@ -74,8 +75,8 @@ fn acknowledges_own_end(call: &mut Call) -> (Outcome, u32) {
 /// A follower says yes to whoever asks at its term, as if it had not heard of that term.
 fn votes_at_own_term(call: &mut Call) -> (Outcome, u32) {
     match heard(call, Kind::VoteRequest) {
-        Some((state, message)) if state.role == Role::Follower && message.term() == state.term => {
-            put_number(call.state, 0, state.term.0 - 1);
+        Some((state, message)) if state.role == FOLLOWER && message.term().0 == state.term => {
+            put_number(call.state, TERM_AT, state.term - 1);
             independent(call)
         }
         _ => independent(call),

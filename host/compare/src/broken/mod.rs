@@ -5,11 +5,12 @@
 pub mod mistakes;
 
 use crate::binding::call::{Call, RECEIVE, RESTART, Step, independent};
-use crate::checker::view::{
-    BALLOT_AT, CHOSEN_AT, Kind, LENGTH_AT, LOST, Message, ROW_SIZE, Role, State, number_at, put_number, role,
-    row_at,
+use crate::checker::message::{Kind, Message};
+use image::{
+    BALLOT_AT, CANDIDATE, CHOSEN_AT, Image, LEADER, LENGTH_AT, LOST, ROLE_AT, ROW_SIZE, number_at,
+    put_number, row_at,
 };
-use independent::{Hub, Outcome, Place, Term};
+use independent::Outcome;
 
 /// Each variant by its name.
 pub const VARIANTS: [(&str, Step); 7] = [
@@ -23,19 +24,19 @@ pub const VARIANTS: [(&str, Step); 7] = [
 ];
 
 /// The hub's state and the message, if the hub receives one of this type that is not below its term.
-pub(crate) fn heard(call: &Call, kind: Kind) -> Option<(State, Message)> {
-    let state = State::read(call.state)?;
+pub(crate) fn heard(call: &Call, kind: Kind) -> Option<(Image, Message)> {
+    let state = Image::read(call.state)?;
     let message = Message::read(call.input).filter(|_| call.event == RECEIVE)?;
-    (message.kind == kind && message.term() >= state.term).then_some((state, message))
+    (message.kind == kind && message.term().0 >= state.term).then_some((state, message))
 }
 
 /// As Raft does: whatever stands behind the append's last entry is removed, once the entry at prev agrees.
 pub(crate) fn cuts_longer_log(call: &mut Call) -> (Outcome, u32) {
     if let Some((state, message)) = heard(call, Kind::Append) {
-        let (prev, prevterm) = (message.number("prev") as usize, Term(message.number("prevterm")));
+        let (prev, prevterm) = (message.number("prev") as usize, message.number("prevterm"));
         let joins = prev == 0 || state.log.get(prev - 1).is_some_and(|entry| entry.0 == prevterm);
         let end = prev + message.entries.len();
-        let leads = state.role == Role::Leader && message.term() == state.term;
+        let leads = state.role == LEADER && message.term().0 == state.term;
         if joins && end < state.log.len() && !leads {
             cut(call.state, &state, end as u32);
         }
@@ -44,21 +45,22 @@ pub(crate) fn cuts_longer_log(call: &mut Call) -> (Outcome, u32) {
 }
 
 /// Nothing is left of what a restart would lose either: who takes an append is a follower.
-fn cut(bytes: &mut [u8], state: &State, end: u32) {
+fn cut(bytes: &mut [u8], state: &Image, end: u32) {
     let rows = (state.log.len() + state.gathered.len()) as u32;
-    bytes[row_at(Place(end + 1))..row_at(Place(rows + 1))].fill(0);
+    bytes[row_at(end + 1)..row_at(rows + 1)].fill(0);
     bytes[LOST].fill(0);
     put_number(bytes, LENGTH_AT, end);
-    put_number(bytes, CHOSEN_AT, state.chosen.0.min(end));
+    put_number(bytes, CHOSEN_AT, state.chosen.min(end));
 }
 
 /// Votes are counted and not their voters: a voter heard before counts as one that is still missing.
 pub(crate) fn counts_vote_twice(call: &mut Call) -> (Outcome, u32) {
     let Some((state, message)) = heard(call, Kind::VoteYes) else { return independent(call) };
-    if state.role != Role::Candidate || !state.voters.contains(&message.from()) {
+    let has_voted = |hub: u32| state.voters[hub as usize - 1] == 1;
+    if state.role != CANDIDATE || !has_voted(message.from().0) {
         return independent(call);
     }
-    let missing = (1..=call.n).find(|&hub| !state.voters.contains(&Hub(hub)));
+    let missing = (1..=call.n).find(|&hub| !has_voted(hub));
     let text = message.with_number("from", missing.expect("less than a majority among the voters")).text();
     independent(&mut call.with_input(text.as_bytes()))
 }
@@ -66,8 +68,8 @@ pub(crate) fn counts_vote_twice(call: &mut Call) -> (Outcome, u32) {
 /// The asked hub does not compare ballots. That alone is safe: the candidate refuses its vote with 7.
 pub fn says_yes_to_lower_ballot(call: &mut Call) -> (Outcome, u32) {
     match heard(call, Kind::VoteRequest) {
-        Some((state, message)) if message.term() > state.term => {
-            let ballot = state.ballot.0.max(message.number("ballot"));
+        Some((state, message)) if message.term().0 > state.term => {
+            let ballot = state.ballot.max(message.number("ballot"));
             let text = message.with_number("ballot", ballot).text();
             independent(&mut call.with_input(text.as_bytes()))
         }
@@ -78,12 +80,12 @@ pub fn says_yes_to_lower_ballot(call: &mut Call) -> (Outcome, u32) {
 /// Neither the asked hub nor the candidate compares ballots.
 pub(crate) fn votes_for_lower_ballot(call: &mut Call) -> (Outcome, u32) {
     match heard(call, Kind::VoteYes) {
-        Some((state, message)) if state.role == Role::Candidate && message.term() == state.term => {
+        Some((state, message)) if state.role == CANDIDATE && message.term().0 == state.term => {
             // With the highest ballot that a candidate may have, it takes any vote. A leader has its term for its ballot.
-            put_number(call.state, BALLOT_AT, state.term.0 - 1);
+            put_number(call.state, BALLOT_AT, state.term - 1);
             let answer = independent(call);
-            if role(call.state) != Some(Role::Leader) {
-                put_number(call.state, BALLOT_AT, state.ballot.0);
+            if call.state[ROLE_AT] != LEADER {
+                put_number(call.state, BALLOT_AT, state.ballot);
             }
             answer
         }
@@ -96,15 +98,14 @@ pub(crate) fn keeps_lesser_ballot(call: &mut Call) -> (Outcome, u32) {
     let before = heard(call, Kind::VoteYes);
     let answer = independent(call);
     let Some((state, message)) = before.filter(|_| answer.0 == Outcome::Done) else { return answer };
-    let ballot = Term(message.number("ballot"));
-    let places = (state.log.len() as u32 + 1..).map(Place);
-    for (place, (held, entry)) in places.zip(state.gathered.iter().zip(&message.entries)) {
+    let ballot = message.number("ballot");
+    for (place, (held, entry)) in (state.length() + 1..).zip(state.gathered.iter().zip(&message.entries)) {
         let lesser = if ballot < held.0 { (ballot, entry.1) } else { *held };
         let row = &mut call.state[row_at(place)..][..ROW_SIZE];
         row[4..].copy_from_slice(&lesser.1);
         // Once the hub leads, the row has its term.
-        if number_at(row, 0) < state.term.0 {
-            put_number(row, 0, lesser.0.0);
+        if number_at(row, 0) < state.term {
+            put_number(row, 0, lesser.0);
         }
     }
     answer
@@ -113,11 +114,11 @@ pub(crate) fn keeps_lesser_ballot(call: &mut Call) -> (Outcome, u32) {
 pub(crate) fn chooses_with_one_less(call: &mut Call) -> (Outcome, u32) {
     let heard = heard(call, Kind::AppendYes);
     let answer = independent(call);
-    if let (Some(_), Some(state), Outcome::Done) = (heard, State::read(call.state), answer.0) {
+    if let (Some(_), Some(state), Outcome::Done) = (heard, Image::read(call.state), answer.0) {
         let mut confirmed = state.confirmed;
         confirmed.sort_by(|one, other| other.cmp(one));
         let too_few = call.n as usize / 2;
-        put_number(call.state, CHOSEN_AT, state.chosen.max(confirmed[too_few - 1]).0);
+        put_number(call.state, CHOSEN_AT, state.chosen.max(confirmed[too_few - 1]));
     }
     answer
 }
@@ -139,8 +140,8 @@ fn acknowledges_too_much(call: &mut Call) -> (Outcome, u32) {
 /// The ballot is not stored: after a restart it is taken to be the term of the log's last entry.
 fn forgets_ballot(call: &mut Call) -> (Outcome, u32) {
     let answer = independent(call);
-    if let (RESTART, Some(state)) = (call.event, State::read(call.state)) {
-        put_number(call.state, BALLOT_AT, state.log.last().map_or(0, |entry| entry.0.0));
+    if let (RESTART, Some(state)) = (call.event, Image::read(call.state)) {
+        put_number(call.state, BALLOT_AT, state.log.last().map_or(0, |entry| entry.0));
     }
     answer
 }

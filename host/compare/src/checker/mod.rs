@@ -3,14 +3,15 @@
 //! who starts or says yes reports; who leads proposes what its log has. What the machine cannot do, what a message claims without
 //! ground, and what a home must never report is named by a `Reason`.
 
+pub mod message;
 pub mod paxos;
-pub mod view;
 
 use crate::binding::call::{PROPOSE, START};
+use image::{Command, Image, LEADER, Row};
 use independent::{Hub, Outcome, Place, Term};
+use message::{Kind, Message};
 use paxos::{Machine, Refusal};
 use std::collections::BTreeSet;
-use view::{Command, Kind, Message, Role, State};
 
 /// The outcomes that no hub of an honest home gives to a text that a hub of it wrote to it.
 const NEVER_GIVEN: [Outcome; 6] = [
@@ -123,7 +124,7 @@ impl Checker {
 
     /// Looks at one step of one hub.
     pub fn see(&mut self, deed: &Deed) -> Result<(), Reason> {
-        let state = State::read(deed.state).ok_or(Reason::NoImage)?;
+        let state = Image::read(deed.state).ok_or(Reason::NoImage)?;
         let asked = if deed.event == PROPOSE { deed.input.try_into().ok() } else { None };
         self.reports.asked.extend(asked);
         if let Some(machine) = &mut self.machine {
@@ -150,47 +151,48 @@ fn read_text(text: &[u8]) -> Result<Option<Message>, Reason> {
 fn follow(
     machine: &mut Machine,
     deed: &Deed,
-    state: &State,
+    state: &Image,
     message: Option<&Message>,
 ) -> Result<(), Reason> {
-    if state.term != machine.promise(deed.hub) {
-        machine.raise(deed.hub, state.term)?;
+    let term = Term(state.term);
+    if term != machine.promise(deed.hub) {
+        machine.raise(deed.hub, term)?;
     }
     let says_yes = message.is_some_and(|message| message.kind == Kind::VoteYes);
     if says_yes || deed.event == START && deed.outcome == Outcome::Done {
-        machine.report(deed.hub, state.term)?;
+        machine.report(deed.hub, term)?;
     }
     cast_votes(machine, deed.hub, state)?;
     message.map_or(Ok(()), |message| check_claims(machine, deed.hub, state, message))
 }
 
 /// The places of a log with their commands.
-fn places(log: &[(Term, Command)]) -> impl Iterator<Item = (Place, Command)> + '_ {
+fn places(log: &[Row]) -> impl Iterator<Item = (Place, Command)> + '_ {
     (1..).map(Place).zip(log.iter().map(|row| row.1))
 }
 
-fn cast_votes(machine: &mut Machine, hub: Hub, state: &State) -> Result<(), Reason> {
-    let length = Place(state.log.len() as u32);
-    let shown = |place: Place, ballot: Term| place <= length && ballot <= state.ballot;
+fn cast_votes(machine: &mut Machine, hub: Hub, state: &Image) -> Result<(), Reason> {
+    let (length, ballot) = (Place(state.length()), Term(state.ballot));
+    let shown = |place: Place, voted: Term| place <= length && voted <= ballot;
     let forgets = machine.highest(hub).iter().any(|(&place, vote)| !shown(place, vote.0));
     ensure(!forgets, Reason::VoteForgotten)?;
-    let leads = state.role == Role::Leader && state.ballot == state.term;
+    let leads = state.role == LEADER && state.ballot == state.term;
     for (place, command) in places(&state.log) {
-        if machine.highest(hub).get(&place) == Some(&(state.ballot, command)) {
+        if machine.highest(hub).get(&place) == Some(&(ballot, command)) {
             continue;
         }
         if leads {
-            machine.propose(state.ballot, place, command)?;
+            machine.propose(ballot, place, command)?;
         }
-        machine.vote(hub, state.ballot, place, command)?;
+        machine.vote(hub, ballot, place, command)?;
     }
     Ok(())
 }
 
 // ---- what messages claim
 
-fn check_claims(machine: &Machine, hub: Hub, state: &State, message: &Message) -> Result<(), Reason> {
-    ensure(message.from() == hub && message.term() == state.term, Reason::NotItsOwn)?;
+fn check_claims(machine: &Machine, hub: Hub, state: &Image, message: &Message) -> Result<(), Reason> {
+    ensure(message.from() == hub && message.term() == Term(state.term), Reason::NotItsOwn)?;
     match message.kind {
         Kind::VoteYes => check_yes(machine, hub, message),
         Kind::Append => check_append(machine, message),
@@ -212,9 +214,8 @@ fn check_yes(machine: &Machine, hub: Hub, message: &Message) -> Result<(), Reaso
 
 fn check_append(machine: &Machine, message: &Message) -> Result<(), Reason> {
     let (term, prev) = (message.term(), message.number("prev"));
-    let proposed = |(index, entry): (u32, &(Term, Command))| {
-        machine.proposal(term, Place(prev + 1 + index)) == Some(entry.1)
-    };
+    let proposed =
+        |(index, entry): (u32, &Row)| machine.proposal(term, Place(prev + 1 + index)) == Some(entry.1);
     ensure((0..).zip(&message.entries).all(proposed), Reason::AppendNotProposed)?;
     let settled = |place: Place| {
         let chosen = machine.chosen(place);
@@ -230,7 +231,7 @@ fn check_end(machine: &Machine, hub: Hub, message: &Message) -> Result<(), Reaso
 
 // ---- what hubs report
 
-fn check_reported(machine: &Machine, state: &State) -> Result<(), Reason> {
+fn check_reported(machine: &Machine, state: &Image) -> Result<(), Reason> {
     let mut reported = (1..).map(Place).zip(state.reported());
     ensure(reported.all(|(place, command)| machine.chosen(place) == Some(command)), Reason::ReportedNotChosen)
 }

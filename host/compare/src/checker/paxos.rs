@@ -2,7 +2,7 @@
 //! reports at a promised ballot. The machine takes the steps that it is asked to take, and refuses with a name those that it cannot take.
 //! It knows nothing of hubs, logs or messages: `checker` says which steps a hub's step stands for.
 
-use crate::checker::view::Command;
+use image::Command;
 use independent::{Hub, Place, Term};
 use std::collections::{BTreeMap, BTreeSet};
 

@@ -3,7 +3,7 @@
 use crate::generator::messages::Sample;
 use crate::generator::rng::Rng;
 use crate::generator::states::{at_most, rising};
-use crate::image::{Image, bytes_of_rows};
+use image::{Image, bytes_of_rows};
 use independent::{Group, LIMIT};
 
 /// A legal message for this hub, of any of the six types.

@@ -1,9 +1,10 @@
 //! States, messages and commands with something wrong in them, more often than not.
 
-use crate::generator::messages::{ROOM, ROW, Sample};
+use crate::generator::messages::{ROOM, Sample};
 use crate::generator::rng::Rng;
-use crate::image::number_at;
-use independent::state::{HEAD_SIZE, SIZE};
+use image::{
+    CONFIRMED_AT, GATHERED_AT, HEAD_SIZE, LENGTH_AT, ROLE_AT, ROW_SIZE, STATE_SIZE, number_at, put_number,
+};
 
 /// Numbers at and next to every edge that document 01 names.
 pub const EDGES: [u32; 12] = [0, 1, 2, 3, 7, 8, 255, 256, 257, 65_536, u32::MAX - 1, u32::MAX];
@@ -37,14 +38,28 @@ pub fn row_changes(term: u32) -> [(usize, u32); 16] {
 /// The bytes of a state with one thing changed.
 pub fn state(rng: &mut Rng, bytes: &[u8]) -> Vec<u8> {
     let mut changed = bytes.to_vec();
-    let used = ((number_at(bytes, 12) + number_at(bytes, 16)) as usize) * ROW;
-    let rest = SIZE - HEAD_SIZE - used;
+    let used = ((number_at(bytes, LENGTH_AT) + number_at(bytes, GATHERED_AT)) as usize) * ROW_SIZE;
+    let rest = STATE_SIZE - HEAD_SIZE - used;
     match rng.below(8) {
         0 => changed[rng.below(HEAD_SIZE as u64) as usize] = rng.next() as u8,
-        1 => put(&mut changed, rng.pick(&NUMBERS), rng.pick(&EDGES)),
+        1 => put_number(&mut changed, rng.pick(&NUMBERS), rng.pick(&EDGES)),
         2 => next_number(rng, &mut changed),
-        3 => changed[20 + rng.below(8) as usize] = rng.pick(&[0, 1, 2, 3, 255]),
-        4 => changed.resize(rng.pick(&[0, 1, HEAD_SIZE, SIZE - ROW, SIZE - 1, SIZE + 1, SIZE + ROW]), 0),
+        3 => {
+            changed[ROLE_AT + rng.below((CONFIRMED_AT - ROLE_AT) as u64) as usize] =
+                rng.pick(&[0, 1, 2, 3, 255])
+        }
+        4 => changed.resize(
+            rng.pick(&[
+                0,
+                1,
+                HEAD_SIZE,
+                STATE_SIZE - ROW_SIZE,
+                STATE_SIZE - 1,
+                STATE_SIZE + 1,
+                STATE_SIZE + ROW_SIZE,
+            ]),
+            0,
+        ),
         5 if rest > 0 => {
             changed[HEAD_SIZE + used + rng.below(rest as u64) as usize] = 1 << rng.below(8);
         }
@@ -53,15 +68,11 @@ pub fn state(rng: &mut Rng, bytes: &[u8]) -> Vec<u8> {
     changed
 }
 
-fn put(bytes: &mut [u8], at: usize, number: u32) {
-    bytes[at..at + 4].copy_from_slice(&number.to_be_bytes());
-}
-
 /// A number of the head, one more or one less.
 fn next_number(rng: &mut Rng, bytes: &mut [u8]) {
     let at = rng.pick(&NUMBERS);
     let number = number_at(bytes, at);
-    put(bytes, at, rng.pick(&[number.wrapping_sub(1), number.wrapping_add(1)]));
+    put_number(bytes, at, rng.pick(&[number.wrapping_sub(1), number.wrapping_add(1)]));
 }
 
 /// One of these rows changed: its term, its command, or any byte. No rows stay none.
@@ -69,12 +80,12 @@ pub fn row(rng: &mut Rng, rows: &mut [u8]) {
     if rows.is_empty() {
         return;
     }
-    let start = rng.below((rows.len() / ROW) as u64) as usize * ROW;
-    let row = &mut rows[start..start + ROW];
+    let start = rng.below((rows.len() / ROW_SIZE) as u64) as usize * ROW_SIZE;
+    let row = &mut rows[start..start + ROW_SIZE];
     let term = number_at(row, 0);
     match rng.below(4) {
-        0 => put(row, 0, rng.pick(&[0, 1, term.wrapping_sub(1), term.wrapping_add(1), u32::MAX])),
-        1 => row[rng.below(ROW as u64) as usize] = rng.next() as u8,
+        0 => put_number(row, 0, rng.pick(&[0, 1, term.wrapping_sub(1), term.wrapping_add(1), u32::MAX])),
+        1 => row[rng.below(ROW_SIZE as u64) as usize] = rng.next() as u8,
         _ => command(rng, &mut row[4..]),
     }
 }
@@ -84,9 +95,9 @@ pub fn command(rng: &mut Rng, bytes: &mut [u8]) {
     match rng.below(5) {
         0 => bytes[..2].copy_from_slice(&rng.pick(&[0u16, 1, 64, 65, 0x0101]).to_be_bytes()),
         1 => bytes[2..4].copy_from_slice(&rng.pick(&[0u16, 1, 2, 3, 0x0100]).to_be_bytes()),
-        2 => put(bytes, 4, rng.pick(&[0, 1, 600_000, 600_001, 0x8000_0000, u32::MAX])),
-        3 => put(bytes, 8, rng.pick(&[0, 1, 0x3f80_0000, 0x3f80_0001, 0x7fc0_0000, 0x8000_0000])),
-        _ => put(bytes, 12, rng.pick(&[0, 1, 0x3f80_0000, 0x3f80_0001, 0x7fc0_0000, 0x8000_0000])),
+        2 => put_number(bytes, 4, rng.pick(&[0, 1, 600_000, 600_001, 0x8000_0000, u32::MAX])),
+        3 => put_number(bytes, 8, rng.pick(&[0, 1, 0x3f80_0000, 0x3f80_0001, 0x7fc0_0000, 0x8000_0000])),
+        _ => put_number(bytes, 12, rng.pick(&[0, 1, 0x3f80_0000, 0x3f80_0001, 0x7fc0_0000, 0x8000_0000])),
     }
 }
 
@@ -94,7 +105,7 @@ pub fn command(rng: &mut Rng, bytes: &mut [u8]) {
 pub fn sample(rng: &mut Rng, sample: &mut Sample) {
     match rng.below(6) {
         0 => row(rng, &mut sample.rows),
-        1 => sample.rows.truncate(sample.rows.len().saturating_sub(ROW)),
+        1 => sample.rows.truncate(sample.rows.len().saturating_sub(ROW_SIZE)),
         2 => sample.fields[0] = 1 + rng.up_to(5),
         3 => sample.fields[2 + rng.below(2) as usize] = rng.up_to(9),
         4 => sample.fields[1 + rng.below(7) as usize] = rng.pick(&EDGES),

@@ -3,12 +3,16 @@
 
 use crate::binding::call::{Call, PROPOSE, RECEIVE, RESTART, SEND, START, Step};
 use crate::binding::outcomes::Outcomes;
-use crate::checker::view::{self, Command, Kind, Message, Role, STATE_SIZE, State};
+use crate::checker::message::{Kind, Message};
 use crate::checker::{Checker, Deed, Reason};
 use crate::generator::messages::ROOM;
 use crate::generator::network::{LONELY, Letter, Network, WEATHERS};
 use crate::generator::rng::Rng;
-use independent::{Hub, Outcome, Place};
+use image::{
+    BALLOT_AT, Command, Image, LEADER, LENGTH_AT, PLACES, ROLE_AT, STATE_SIZE, TERM_AT, confirmed_at,
+    number_at, put_number,
+};
+use independent::{Hub, Outcome};
 use std::collections::VecDeque;
 
 /// What happened in runs, so that runs in which little happens are noticed.
@@ -97,7 +101,7 @@ impl Home {
             states: vec![vec![0; STATE_SIZE]; n as usize],
             away: vec![0; n as usize],
             now: 0,
-            most: rng.pick(&[12, 40, 120, 256]),
+            most: rng.pick(&[12, 40, 120, PLACES]),
             proposals: 0,
             last_leader: None,
             checker: watch(n),
@@ -162,20 +166,32 @@ impl Home {
     }
 
     fn leads(&self, hub: Hub) -> bool {
-        view::role(self.state(hub)) == Some(Role::Leader)
+        self.state(hub)[ROLE_AT] == LEADER
+    }
+
+    fn term(&self, hub: Hub) -> u32 {
+        number_at(self.state(hub), TERM_AT)
+    }
+
+    fn ballot(&self, hub: Hub) -> u32 {
+        number_at(self.state(hub), BALLOT_AT)
+    }
+
+    fn length(&self, hub: Hub) -> u32 {
+        number_at(self.state(hub), LENGTH_AT)
     }
 
     /// Whether no hub leads the latest term.
     fn is_orphaned(&self) -> bool {
-        let latest = self.states.iter().map(|state| view::term(state)).max();
-        !self.hubs().any(|hub| self.leads(hub) && Some(view::term(self.state(hub))) == latest)
+        let latest = self.hubs().map(|hub| self.term(hub)).max();
+        !self.hubs().any(|hub| self.leads(hub) && Some(self.term(hub)) == latest)
     }
 
     /// One that thinks it leads: mostly that of the latest term. Now and then any hub, to be refused.
     fn leader(&mut self) -> Option<Hub> {
         let mut leaders: Vec<Hub> =
             self.hubs().filter(|&hub| self.leads(hub) && !self.is_away(hub)).collect();
-        leaders.sort_by_key(|&hub| view::term(self.state(hub)));
+        leaders.sort_by_key(|&hub| self.term(hub));
         match self.rng.below(40) {
             0 => Some(self.any_hub()),
             1..12 if !leaders.is_empty() => Some(self.rng.pick(&leaders)),
@@ -184,11 +200,11 @@ impl Home {
     }
 
     fn lowest_ballot(&self) -> Option<Hub> {
-        self.hubs().filter(|&hub| !self.is_away(hub)).min_by_key(|&hub| view::ballot(self.state(hub)))
+        self.hubs().filter(|&hub| !self.is_away(hub)).min_by_key(|&hub| self.ballot(hub))
     }
 
     fn highest_ballot(&self) -> Option<Hub> {
-        self.hubs().filter(|&hub| !self.is_away(hub)).max_by_key(|&hub| view::ballot(self.state(hub)))
+        self.hubs().filter(|&hub| !self.is_away(hub)).max_by_key(|&hub| self.ballot(hub))
     }
 
     // ---- what hubs do of themselves
@@ -240,10 +256,10 @@ impl Home {
 
     fn propose(&mut self) -> Result<(), Reason> {
         let Some(hub) = self.leader() else { return Ok(()) };
-        if view::length(self.state(hub)) >= Place(self.most) && self.most < 256 {
+        if self.length(hub) >= self.most && self.most < PLACES {
             return Ok(());
         }
-        for _ in 0..1 + self.rng.below(if self.most == 256 { 12 } else { 4 }) {
+        for _ in 0..1 + self.rng.below(if self.most == PLACES { 12 } else { 4 }) {
             self.proposals += 1;
             let mut command = command(self.proposals);
             if self.rng.below(60) == 0 {
@@ -267,13 +283,13 @@ impl Home {
 
     /// Mostly from what the peer has confirmed, or from where its log ends; sometimes from anywhere.
     fn send(&mut self, hub: Hub, peer: Hub) -> Result<(), Reason> {
-        let length = view::length(self.state(hub)).0;
-        let near = length.min(view::length(self.state(peer)).0);
+        let length = self.length(hub);
+        let near = length.min(self.length(peer));
         let prev = match self.rng.below(10) {
             0 => self.rng.below(u64::from(length) + 2) as u32,
             1 | 2 => near,
             3 => near - self.rng.below(u64::from(near.min(4)) + 1) as u32,
-            _ => view::confirmed(self.state(hub), peer).0,
+            _ => number_at(self.state(hub), confirmed_at(peer.0)),
         };
         self.call(hub, SEND, peer.0, prev, b"")
     }
@@ -348,27 +364,27 @@ impl Home {
             self.tally.received[message.kind as usize] += 1;
             self.tally.contested += u64::from(is_contested(before, message));
         }
-        if self.leads(hub) && view::role(before) != Some(Role::Leader) {
+        if self.leads(hub) && before[ROLE_AT] != LEADER {
             self.tally.led += 1;
             self.tally.leader_changed += u64::from(self.last_leader.is_some_and(|last| last != hub));
             self.last_leader = Some(hub);
         }
-        let is_full = |state: &[u8]| view::length(state) == Place(256);
+        let is_full = |state: &[u8]| number_at(state, LENGTH_AT) == PLACES;
         self.tally.full += u64::from(is_full(self.state(hub)) && !is_full(before));
     }
 }
 
 /// Whether a vote's entries meet gathered ones of another ballot.
 fn is_contested(before: &[u8], message: &Message) -> bool {
-    let Some(state) = State::read(before) else { return false };
+    let Some(state) = Image::read(before) else { return false };
     let ballot = message.number("ballot");
     let mut met = state.gathered.iter().zip(&message.entries);
-    message.kind == Kind::VoteYes && met.any(|(held, _)| held.0.0 != ballot)
+    message.kind == Kind::VoteYes && met.any(|(held, _)| held.0 != ballot)
 }
 
 /// A legal command, another for each number: a buzz with gain 0.5.
 fn command(number: u32) -> Command {
     let mut bytes = [0, 1 + (number % 64) as u8, 0, 1, 0, 0, 0, 0, 0x3f, 0, 0, 0, 0, 0, 0, 0];
-    view::put_number(&mut bytes, 4, 1 + number / 64);
+    put_number(&mut bytes, 4, 1 + number / 64);
     bytes
 }

@@ -1,14 +1,12 @@
 //! Messages to compare with: every legal shape, and random ones, as the numbers and rows that the library takes.
 
 use crate::generator::rng::Rng;
+use image::ROW_SIZE;
 use independent::message::{self, Append, Body, Message};
 use independent::{Entry, Hub, Outcome, Place, Term};
 
 /// How many numbers a message has: type, term, from, to, up to three of its own, and the count of its entries.
 pub const FIELDS: usize = 8;
-
-/// The bytes of a row: four of term, sixteen of command.
-pub const ROW: usize = 20;
 
 /// The least size of an output, and the greatest of a text.
 pub const ROOM: usize = 16_384;
@@ -82,9 +80,9 @@ impl Sample {
     pub fn entries(&self) -> Vec<Entry> {
         let entry = |row: &[u8]| Entry {
             term: Term(u32::from_be_bytes(row[..4].try_into().expect("four bytes"))),
-            command: row[4..ROW].try_into().expect("sixteen bytes"),
+            command: row[4..ROW_SIZE].try_into().expect("sixteen bytes"),
         };
-        self.rows.chunks_exact(ROW).map(entry).collect()
+        self.rows.chunks_exact(ROW_SIZE).map(entry).collect()
     }
 
     /// The text that the independent program writes; the sample has to be legal.
@@ -109,7 +107,7 @@ const COMMANDS: [[u8; 16]; 5] = [
 
 /// So many rows, of terms that rise from the first to the last.
 pub fn rows(count: u32, first: u32, last: u32) -> Vec<u8> {
-    let mut bytes = Vec::with_capacity(count as usize * ROW);
+    let mut bytes = Vec::with_capacity(count as usize * ROW_SIZE);
     for index in 0..count {
         let span = u64::from(last - first);
         let term = first + (span * u64::from(index) / u64::from(count.max(2) - 1)) as u32;

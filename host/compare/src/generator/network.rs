@@ -1,6 +1,6 @@
 //! A home's network: texts under way between hubs. It loses, repeats, reorders and delays them, but never makes one up or alters it.
 
-use crate::checker::view::{Kind, Message};
+use crate::checker::message::{Kind, Message};
 use crate::generator::rng::Rng;
 use independent::Hub;
 

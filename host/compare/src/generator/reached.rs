@@ -5,8 +5,8 @@ use crate::binding::call::{PROPOSE, RECEIVE, RESTART, SEND, START};
 use crate::generator::messages::ROOM;
 use crate::generator::rng::Rng;
 use crate::generator::states::{at_most, command};
-use crate::image::{Image, LEADER};
-use independent::{Group, message, state};
+use image::{Image, LEADER, STATE_SIZE};
+use independent::{Group, message};
 
 /// The network keeps at most this many texts.
 const AFLOAT: usize = 24;
@@ -21,7 +21,7 @@ pub struct Home {
 impl Home {
     /// A home of fresh hubs.
     pub fn fresh(n: u32) -> Home {
-        Home { n, states: vec![vec![0; state::SIZE]; n as usize], afloat: Vec::new() }
+        Home { n, states: vec![vec![0; STATE_SIZE]; n as usize], afloat: Vec::new() }
     }
 
     /// One of the hubs, and its state.
@@ -31,7 +31,7 @@ impl Home {
     }
 
     fn image(&self, own: u32) -> Image {
-        Image::of(&self.states[own as usize - 1])
+        Image::read(&self.states[own as usize - 1]).expect("a hub's state")
     }
 
     /// Something happens in the home.

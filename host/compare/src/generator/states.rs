@@ -1,7 +1,7 @@
 //! Random legal states: every role, every size of a group, logs of every length, terms from 0 to the largest.
 
 use crate::generator::rng::Rng;
-use crate::image::{CANDIDATE, Command, Image, LEADER, Row};
+use image::{CANDIDATE, Command, Image, LEADER, Row};
 use independent::{Group, LIMIT};
 
 /// One of the groups that a home may have, seen from one of its hubs.

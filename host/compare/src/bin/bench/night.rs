@@ -4,8 +4,8 @@ use crate::cpu::medians;
 use crate::table;
 use compare::binding::call::{Call, PROPOSE, RECEIVE, SEND, START, Step, exported, independent};
 use compare::generator::messages::ROOM;
-use compare::image::number_at;
-use independent::{Hub, Outcome, state};
+use image::{CHOSEN_AT, STATE_SIZE, number_at};
+use independent::{Hub, Outcome};
 
 const COMMANDS: u32 = 200;
 
@@ -25,7 +25,7 @@ struct Night {
 
 impl Night {
     fn new(step: Step, n: u32) -> Night {
-        let states = vec![vec![0; state::SIZE]; n as usize];
+        let states = vec![vec![0; STATE_SIZE]; n as usize];
         let [asked, answered, closed] = [(); 3].map(|()| vec![0; ROOM]);
         Night { step, n, states, steps: 0, asked, answered, closed }
     }
@@ -75,7 +75,10 @@ impl Night {
         }
         // Once more without entries: the last command is chosen.
         self.spread(COMMANDS);
-        assert!(self.states.iter().all(|state| number_at(state, 8) == COMMANDS), "all is chosen everywhere");
+        assert!(
+            self.states.iter().all(|state| number_at(state, CHOSEN_AT) == COMMANDS),
+            "all is chosen everywhere"
+        );
         self.steps
     }
 }

@@ -5,7 +5,7 @@ use crate::table;
 use compare::binding::both::Call;
 use compare::binding::call::{PROPOSE, RECEIVE, RESTART, SEND, START};
 use compare::generator::messages::{ROOM, Sample, rows};
-use compare::image::{CANDIDATE, Image, LEADER, rows_of_bytes};
+use image::{CANDIDATE, Image, LEADER, rows_of_bytes};
 use independent::{LIMIT, Outcome, step};
 use std::hint::black_box;
 
