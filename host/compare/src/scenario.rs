@@ -129,14 +129,20 @@ impl Stage {
     fn perform(&mut self, order: &Order, name: Option<&str>) -> Result<(), String> {
         let &Order { hub, event, a, b, ref input, forged } = order;
         let n = self.states.len() as u32;
-        let state = &mut self.states[hub.0 as usize - 1];
-        let mut out = vec![0; ROOM];
+        let stored = &mut self.states[hub.0 as usize - 1];
+        let lent = stored.clone();
+        let (mut left, mut out) = (lent.clone(), vec![0; ROOM]);
         let (outcome, written) =
-            (self.step)(&mut Call { n, own: hub, event, a, b, state, input, out: &mut out });
+            (self.step)(&mut Call { n, own: hub, event, a, b, state: &mut left, input, out: &mut out });
         out.truncate(written as usize);
+        if outcome == Outcome::Done {
+            stored.clone_from(&left);
+        }
         // No machine stands behind a text that nobody wrote: only a refusal can be looked at, and it leaves the state.
         if !forged || outcome == Outcome::Done {
-            let deed = Deed { hub, event, input, outcome, state, text: &out };
+            let damaged = false;
+            let deed =
+                Deed { hub, event, input, damaged, outcome, lent: &lent, left: &left, stored, text: &out };
             self.checker.see(&deed).map_err(|reason| format!("{reason:?}"))?;
         }
         self.tell(hub, outcome, &out);

@@ -8,7 +8,7 @@ use compare::generator::home::{Failure, Home, TURNS, size};
 use independent::Outcome;
 
 /// What catches each variant, in the order of `VARIANTS`: the first always does among these homes, the others may.
-const CAUGHT: [&[Reason]; 7] = [
+const CAUGHT: [&[Reason]; 8] = [
     &[Reason::VoteForgotten],
     &[
         Reason::Machine(NoMajorityReported),
@@ -20,6 +20,7 @@ const CAUGHT: [&[Reason]; 7] = [
     &[Reason::ReportedNotChosen],
     &[Reason::AcknowledgedWithoutVote],
     &[Reason::VoteForgotten],
+    &[Reason::ReportedNotChosen, Reason::Refused(Outcome::Contradicting), Reason::Machine(SecondProposal)],
 ];
 
 /// How many homes are tried with each variant.
@@ -29,12 +30,15 @@ fn failure(step: Step, seed: u64, watch: fn(u32) -> Checker) -> Option<Failure> 
     Home::new(step, seed, watch).run(TURNS).err()
 }
 
+/// It is caught by what MultiPaxos cannot do, without a look at what a single step makes of its bytes.
 #[test]
 fn every_variant_is_caught() {
     for ((name, step), reasons) in VARIANTS.into_iter().zip(CAUGHT) {
         let mut found = Vec::new();
         for seed in 1..=HOMES {
-            let Some(Failure { reason, steps, .. }) = failure(step, seed, Checker::new) else { continue };
+            let Some(Failure { reason, steps, .. }) = failure(step, seed, Checker::of_machine) else {
+                continue;
+            };
             assert!(reasons.contains(&reason), "{name}: {reason:?}, seed {seed}");
             if !found.contains(&reason) {
                 println!("{name}: {reason:?} at step {steps} of seed {seed}, {} hubs", size(seed));
@@ -47,7 +51,7 @@ fn every_variant_is_caught() {
 
 /// A home for each variant, in the order of `VARIANTS`, in which it does harm: the first such seed, found by trying one after the other. A
 /// change of what a seed makes happen changes them.
-const HARMED: [u64; 7] = [3, 98, 30, 1099, 7, 13, 420];
+const HARMED: [u64; 8] = [5, 124, 34, 323, 3, 3, 576, 19];
 
 /// Nothing but the hubs' reports is looked at: two of them come to differ, or one takes back what it has reported.
 #[test]
@@ -57,6 +61,17 @@ fn every_variant_does_harm() {
         let Some(Failure { reason, steps, .. }) = failure else { panic!("{name}: no harm with seed {seed}") };
         println!("{name}: {reason:?} at step {steps} of seed {seed}, {} hubs", size(seed));
         assert!(matches!(reason, Reason::ReportsDiffer | Reason::ReportTakenBack), "{name}: {reason:?}");
+    }
+}
+
+/// Where every step is looked at alone too, a restart that leaves anything but what was kept is found out at once.
+#[test]
+fn a_broken_restart_is_seen_at_once() {
+    for (name, step) in VARIANTS.into_iter().filter(|variant| variant.0.starts_with("a restart")) {
+        let reason = |seed| failure(step, seed, Checker::new).map(|failure| failure.reason);
+        let reasons: Vec<Reason> = (1..=HOMES).filter_map(reason).collect();
+        let at_once = reasons.iter().all(|&reason| reason == Reason::NotWhatWasKept);
+        assert!(reasons.len() > 10 && at_once, "{name}: {reasons:?}");
     }
 }
 

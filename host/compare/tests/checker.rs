@@ -3,7 +3,7 @@
 use compare::binding::call::{PROPOSE, RECEIVE, RESTART, START};
 use compare::checker::paxos::{Machine, Refusal};
 use compare::checker::{Checker, Deed, Reason};
-use image::{CANDIDATE, FOLLOWER, Image, LEADER};
+use image::{CANDIDATE, FOLLOWER, Image, LEADER, LOST, row_at};
 use independent::{Hub, Outcome, Term};
 
 /// A command for each number.
@@ -22,19 +22,19 @@ fn text(kind: &str, term: u32, from: u32, lines: &str) -> String {
     format!("type={kind}\nterm={term}\nfrom={from}\nto=1\n{}", lines.replace(' ', "\n") + "\n")
 }
 
+/// What a hub comes to that hears nothing and writes nothing: the outcome, with this state before and after it.
+fn deed(outcome: Outcome, state: &[u8]) -> Deed<'_> {
+    let (hub, event, damaged) = (Hub(1), RECEIVE, false);
+    Deed { hub, event, input: b"", damaged, outcome, lent: state, left: state, stored: state, text: b"" }
+}
+
 /// A home of three under the checker's eyes.
 struct Watch(Checker);
 
 impl Watch {
     fn see(&mut self, hub: u32, event: u32, input: &[u8], state: &[u8], text: &str) -> Result<(), Reason> {
-        self.0.see(&Deed {
-            hub: Hub(hub),
-            event,
-            input,
-            outcome: Outcome::Done,
-            state,
-            text: text.as_bytes(),
-        })
+        let text = text.as_bytes();
+        self.0.see(&Deed { hub: Hub(hub), event, input, text, ..deed(Outcome::Done, state) })
     }
 
     /// Something happens to a hub that writes nothing.
@@ -182,16 +182,67 @@ fn ends_are_voted_for() {
     assert_eq!(says(2, &text("append-yes", 2, 2, "end=1")), Err(Reason::AcknowledgedWithoutVote));
 }
 
+// ---- a step alone
+
+#[test]
+fn refusals_change_nothing_and_only_stale_ones_write() {
+    let [state, other] = [0, 1].map(|term| state(FOLLOWER, term, 0, 0, &[]));
+    let writes = text("append-no", 0, 1, "length=0");
+    for outcome in [Outcome::Stale, Outcome::WrongRole, Outcome::LogFull, Outcome::NothingNew] {
+        let refused = deed(outcome, &state);
+        let changed = Deed { left: &other, ..refused };
+        assert_eq!(Checker::new(3).see(&changed), Err(Reason::RefusalActs));
+        assert_eq!(Checker::of_machine(3).see(&changed), Ok(()));
+        let answered = Checker::new(3).see(&Deed { text: writes.as_bytes(), ..refused });
+        let expected = if outcome == Outcome::Stale { Ok(()) } else { Err(Reason::RefusalActs) };
+        assert_eq!(answered, expected);
+    }
+}
+
+/// What the checker says to a restart of hub 2, which has taken command 5, from its bytes with anything in the lost parts.
+fn restarts(outcome: Outcome, left: &[u8]) -> Result<(), Reason> {
+    let mut lent = state(FOLLOWER, 1, 1, 0, &[5]);
+    lent[LOST].fill(0xff);
+    lent[row_at(2)..].fill(0xff);
+    let lent = &lent[..];
+    fresh().chosen().0.see(&Deed { hub: Hub(2), event: RESTART, lent, ..deed(outcome, left) })
+}
+
+#[test]
+fn restarts_leave_what_was_kept() {
+    let kept = state(FOLLOWER, 1, 1, 0, &[5]);
+    assert_eq!(restarts(Outcome::Done, &kept), Ok(()));
+    let mut behind = kept.clone();
+    behind[row_at(256)] = 1;
+    let others = [state(LEADER, 1, 1, 0, &[5]), state(FOLLOWER, 2, 1, 0, &[5]), behind];
+    for other in others {
+        assert_eq!(restarts(Outcome::Done, &other), Err(Reason::NotWhatWasKept));
+    }
+    assert_eq!(restarts(Outcome::BadState, &kept), Err(Reason::RefusalActs));
+    let refused = Deed { event: RESTART, ..deed(Outcome::BadState, &kept) };
+    assert_eq!(Checker::new(3).see(&refused), Err(Reason::NotWhatWasKept));
+}
+
+#[test]
+fn damaged_texts_are_refused_for_that() {
+    let state = state(FOLLOWER, 0, 0, 0, &[]);
+    for outcome in Outcome::ALL {
+        let expected = if outcome == Outcome::BadMessage { Ok(()) } else { Err(Reason::DamageTaken) };
+        assert_eq!(Checker::new(3).see(&Deed { damaged: true, ..deed(outcome, &state) }), expected);
+    }
+}
+
 // ---- outcomes and reports
 
 #[test]
 fn honest_hubs_refuse_no_honest_message() {
     let state = state(FOLLOWER, 0, 0, 0, &[]);
     for outcome in Outcome::ALL {
-        let deed = Deed { hub: Hub(1), event: RECEIVE, input: b"", outcome, state: &state, text: b"" };
         let refused = matches!(outcome.number(), 1..=5 | 7);
         let expected = if refused { Err(Reason::Refused(outcome)) } else { Ok(()) };
-        assert_eq!(Checker::new(3).see(&deed), expected);
+        assert_eq!(Checker::new(3).see(&deed(outcome, &state)), expected);
+        assert_eq!(Checker::new(3).hear(outcome), expected);
+        assert_eq!(Checker::of_reports().hear(outcome), Ok(()));
     }
     assert_eq!(fresh().silent(1, &state[1..]), Err(Reason::NoImage));
 }

@@ -56,6 +56,10 @@ fn assert_eventful(all: &Tally) {
     assert!(all.contested > 50, "what is gathered differs in ballots");
     assert!(all.reported > 10_000, "places are reported");
     assert!(all.full > 50, "logs become full");
+    assert!(all.restarts > 5_000, "hubs restart, and find anything where the lost parts were");
+    assert!(all.damaged > 3_000 && all.still_read > 10, "texts are damaged");
+    assert_eq!(all.outcomes[Outcome::BadMessage], all.damaged, "no other text is refused as none");
+    assert!(all.reheard > 100_000, "late texts are heard");
     for outcome in GIVEN {
         assert!(all.outcomes[outcome] > 500, "{outcome:?} is given");
     }

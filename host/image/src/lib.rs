@@ -112,16 +112,16 @@ impl Image {
         if gathered > PLACES - kept.length() {
             return None;
         }
-        let behind = &bytes[row_at(kept.length() + 1)..];
+        let (held, unused) = bytes[row_at(kept.length() + 1)..].split_at(gathered as usize * ROW_SIZE);
         let image = Image {
             role: bytes[ROLE_AT],
             voters: bytes[VOTERS_AT..CONFIRMED_AT].try_into().expect("seven bytes"),
             confirmed: std::array::from_fn(|index| number_at(bytes, CONFIRMED_AT + 4 * index)),
-            gathered: rows_of_bytes(&behind[..gathered as usize * ROW_SIZE]),
+            gathered: rows_of_bytes(held),
             ..kept
         };
         let known = image.role <= LEADER && image.voters.iter().all(|&mark| mark <= 1);
-        (known && image.bytes() == bytes).then_some(image)
+        (known && unused.chunks(ROW_SIZE).all(|row| row == [0; ROW_SIZE])).then_some(image)
     }
 
     /// What of these bytes is kept over a restart, all else as at a fresh hub; none if a log's length cannot be seen in them.

@@ -7,13 +7,13 @@ pub mod mistakes;
 use crate::binding::call::{Call, RECEIVE, RESTART, Step, independent};
 use crate::checker::message::{Kind, Message};
 use image::{
-    BALLOT_AT, CANDIDATE, CHOSEN_AT, Image, LEADER, LENGTH_AT, LOST, ROLE_AT, ROW_SIZE, number_at,
-    put_number, row_at,
+    BALLOT_AT, CANDIDATE, CHOSEN_AT, Image, LEADER, LENGTH_AT, LOST, ROLE_AT, ROW_SIZE, confirmed_at,
+    number_at, put_number, row_at,
 };
-use independent::Outcome;
+use independent::{Outcome, message};
 
 /// Each variant by its name.
-pub const VARIANTS: [(&str, Step); 7] = [
+pub const VARIANTS: [(&str, Step); 8] = [
     ("an append that cuts a longer log", cuts_longer_log),
     ("a repeated vote-yes counted twice", counts_vote_twice),
     ("votes given to a lower ballot", votes_for_lower_ballot),
@@ -21,12 +21,14 @@ pub const VARIANTS: [(&str, Step); 7] = [
     ("chosen moved with one vote less than a majority", chooses_with_one_less),
     ("an acknowledged end beyond what was stored", acknowledges_too_much),
     ("a restart that forgets the ballot", forgets_ballot),
+    ("a restart that trusts what was lost", trusts_lost_parts),
 ];
 
-/// The hub's state and the message, if the hub receives one of this type that is not below its term.
+/// The hub's state and the message, if the hub receives one of this type that is legal and not below its term.
 pub(crate) fn heard(call: &Call, kind: Kind) -> Option<(Image, Message)> {
     let state = Image::read(call.state)?;
-    let message = Message::read(call.input).filter(|_| call.event == RECEIVE)?;
+    let legal = call.event == RECEIVE && message::read(call.input).message.is_ok();
+    let message = Message::read(call.input).filter(|_| legal)?;
     (message.kind == kind && message.term().0 >= state.term).then_some((state, message))
 }
 
@@ -142,6 +144,22 @@ fn forgets_ballot(call: &mut Call) -> (Outcome, u32) {
     let answer = independent(call);
     if let (RESTART, Some(state)) = (call.event, Image::read(call.state)) {
         put_number(call.state, BALLOT_AT, state.log.last().map_or(0, |entry| entry.0));
+    }
+    answer
+}
+
+/// Who finds itself a leader after a restart goes on as one, with the confirmed lengths that it finds, cut to what a leader's may be.
+fn trusts_lost_parts(call: &mut Call) -> (Outcome, u32) {
+    let found = call.state.to_vec();
+    let answer = independent(call);
+    let Some(kept) = Image::read(call.state).filter(|_| call.event == RESTART) else { return answer };
+    if found[ROLE_AT] == LEADER && kept.term > 0 && kept.ballot == kept.term {
+        let mut leads = Image { role: LEADER, ..kept };
+        for hub in 1..=call.n {
+            leads.confirmed[hub as usize - 1] = number_at(&found, confirmed_at(hub)).min(leads.length());
+        }
+        leads.confirmed[call.own.0 as usize - 1] = leads.length();
+        call.state.copy_from_slice(&leads.bytes());
     }
     answer
 }

@@ -6,7 +6,7 @@
 pub mod message;
 pub mod paxos;
 
-use crate::binding::call::{PROPOSE, START};
+use crate::binding::call::{PROPOSE, RESTART, START};
 use image::{Command, Image, LEADER, Row};
 use independent::{Hub, Outcome, Place, Term};
 use message::{Kind, Message};
@@ -30,6 +30,12 @@ pub enum Reason {
     Refused(Outcome),
     /// Bytes that are no state's, or a text that is no message's.
     NoImage,
+    /// A refusal that changes the state which it was lent, or writes although it is not Stale.
+    RefusalActs,
+    /// A restart that is refused, or leaves anything but what was kept.
+    NotWhatWasKept,
+    /// A text that reads as no message and is not refused for that.
+    DamageTaken,
     /// A step that MultiPaxos cannot take.
     Machine(Refusal),
     /// The log no longer shows a vote that the hub has cast.
@@ -65,13 +71,19 @@ fn ensure(holds: bool, reason: Reason) -> Result<(), Reason> {
 }
 
 /// What a hub was called for, and what came of it.
+#[derive(Clone, Copy)]
 pub struct Deed<'a> {
     pub hub: Hub,
     pub event: u32,
     pub input: &'a [u8],
+    /// Whether the input is a text that was damaged until it reads as no message.
+    pub damaged: bool,
     pub outcome: Outcome,
-    /// The hub's bytes after the step.
-    pub state: &'a [u8],
+    /// The bytes that the step was lent as the hub's state, and what it made of them.
+    pub lent: &'a [u8],
+    pub left: &'a [u8],
+    /// What is stored of the hub after the step.
+    pub stored: &'a [u8],
     /// What it wrote; nothing if empty.
     pub text: &'a [u8],
 }
@@ -101,6 +113,8 @@ impl Reports {
 
 /// A home as it is seen from outside.
 pub struct Checker {
+    /// Whether each step is looked at for what it makes of what it is lent.
+    steps: bool,
     /// None if only what hubs report is looked at.
     machine: Option<Machine>,
     reports: Reports,
@@ -109,12 +123,17 @@ pub struct Checker {
 impl Checker {
     /// Watches a fresh group of n hubs.
     pub fn new(n: u32) -> Checker {
-        Checker { machine: Some(Machine::new(n)), reports: Reports::default() }
+        Checker { steps: true, ..Checker::of_machine(n) }
+    }
+
+    /// Watches a fresh group of n hubs for what MultiPaxos cannot do, whatever a single step makes of its bytes.
+    pub fn of_machine(n: u32) -> Checker {
+        Checker { machine: Some(Machine::new(n)), ..Checker::of_reports() }
     }
 
     /// Watches nothing but what hubs report: whether they differ, take it back, or were not asked for it.
     pub fn of_reports() -> Checker {
-        Checker { machine: None, reports: Reports::default() }
+        Checker { steps: false, machine: None, reports: Reports::default() }
     }
 
     /// How many places some hub has reported.
@@ -122,13 +141,21 @@ impl Checker {
         self.reports.by_any.len()
     }
 
+    /// Looks at what a hub would answer now to a text that was ever written to it.
+    pub fn hear(&self, outcome: Outcome) -> Result<(), Reason> {
+        ensure(self.machine.is_none() || !NEVER_GIVEN.contains(&outcome), Reason::Refused(outcome))
+    }
+
     /// Looks at one step of one hub.
     pub fn see(&mut self, deed: &Deed) -> Result<(), Reason> {
-        let state = Image::read(deed.state).ok_or(Reason::NoImage)?;
+        if self.steps {
+            check_step(deed)?;
+        }
+        let state = Image::read(deed.stored).ok_or(Reason::NoImage)?;
         let asked = if deed.event == PROPOSE { deed.input.try_into().ok() } else { None };
         self.reports.asked.extend(asked);
         if let Some(machine) = &mut self.machine {
-            ensure(!NEVER_GIVEN.contains(&deed.outcome), Reason::Refused(deed.outcome))?;
+            ensure(deed.damaged || !NEVER_GIVEN.contains(&deed.outcome), Reason::Refused(deed.outcome))?;
             let message = read_text(deed.text)?;
             asked.into_iter().for_each(|command| machine.ask(command));
             follow(machine, deed, &state, message.as_ref())?;
@@ -143,6 +170,20 @@ fn read_text(text: &[u8]) -> Result<Option<Message>, Reason> {
         [] => Ok(None),
         _ => Message::read(text).map(Some).ok_or(Reason::NoImage),
     }
+}
+
+// ---- a step alone
+
+fn check_step(deed: &Deed) -> Result<(), Reason> {
+    let (done, stale) = (deed.outcome == Outcome::Done, deed.outcome == Outcome::Stale);
+    ensure(done || deed.left == deed.lent, Reason::RefusalActs)?;
+    ensure(done || stale || deed.text.is_empty(), Reason::RefusalActs)?;
+    ensure(!deed.damaged || deed.outcome == Outcome::BadMessage, Reason::DamageTaken)?;
+    if deed.event == RESTART {
+        let kept = Image::kept(deed.lent).map(|image| image.bytes());
+        ensure(done && kept.is_some_and(|kept| kept == deed.left), Reason::NotWhatWasKept)?;
+    }
+    Ok(())
 }
 
 // ---- the machine's steps

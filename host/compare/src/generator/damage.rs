@@ -2,8 +2,10 @@
 
 use crate::generator::messages::{ROOM, Sample};
 use crate::generator::rng::Rng;
+use crate::generator::states::at_most;
 use image::{
-    CONFIRMED_AT, GATHERED_AT, HEAD_SIZE, LENGTH_AT, ROLE_AT, ROW_SIZE, STATE_SIZE, number_at, put_number,
+    CANDIDATE, CONFIRMED_AT, FOLLOWER, GATHERED_AT, HEAD_SIZE, LEADER, LENGTH_AT, LOST, PLACES, ROLE_AT,
+    ROW_SIZE, STATE_SIZE, VOTERS_AT, confirmed_at, number_at, put_number, row_at,
 };
 
 /// Numbers at and next to every edge that document 01 names.
@@ -73,6 +75,20 @@ fn next_number(rng: &mut Rng, bytes: &mut [u8]) {
     let at = rng.pick(&NUMBERS);
     let number = number_at(bytes, at);
     put_number(bytes, at, rng.pick(&[number.wrapping_sub(1), number.wrapping_add(1)]));
+}
+
+/// Whatever a loss of power may leave where the lost parts of a state were, the rows behind the log among them: any bytes, and more
+/// often such as a hub would believe.
+pub fn lost(rng: &mut Rng, bytes: &mut [u8]) {
+    let length = number_at(bytes, LENGTH_AT);
+    rng.fill(&mut bytes[LOST]);
+    rng.fill(&mut bytes[row_at(length + 1)..]);
+    if !rng.one_in(3) {
+        put_number(bytes, GATHERED_AT, at_most(rng, PLACES - length));
+        bytes[ROLE_AT] = rng.pick(&[FOLLOWER, CANDIDATE, LEADER]);
+        bytes[VOTERS_AT..CONFIRMED_AT].iter_mut().for_each(|mark| *mark = rng.below(2) as u8);
+        (1..=7).for_each(|hub| put_number(bytes, confirmed_at(hub), at_most(rng, length)));
+    }
 }
 
 /// One of these rows changed: its term, its command, or any byte. No rows stay none.

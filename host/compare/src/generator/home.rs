@@ -1,11 +1,14 @@
 //! Random runs of a home: hubs driven by any function of the step's form over a `Network`, with hubs that restart, stay away, and start
-//! together. A `Checker` looks at every step. All that happens comes from a seed: the same seed gives the same run.
+//! together. A restart finds anything where the lost parts were, and some texts come damaged. A `Checker` looks at every step. All that
+//! happens comes from a seed: the same seed gives the same run.
 
 use crate::binding::call::{Call, PROPOSE, RECEIVE, RESTART, SEND, START, Step};
 use crate::binding::outcomes::Outcomes;
+use crate::binding::read_message;
 use crate::checker::message::{Kind, Message};
 use crate::checker::{Checker, Deed, Reason};
-use crate::generator::messages::ROOM;
+use crate::generator::damage;
+use crate::generator::messages::{FIELDS, ROOM};
 use crate::generator::network::{LONELY, Letter, Network, WEATHERS};
 use crate::generator::rng::Rng;
 use image::{
@@ -20,6 +23,15 @@ use std::collections::VecDeque;
 pub struct Tally {
     pub steps: u64,
     pub outcomes: Outcomes,
+    /// Restarts, each with the lost parts scrambled.
+    pub restarts: u64,
+    /// Texts delivered as they were written, and texts delivered damaged, which no longer read as a message.
+    pub whole: u64,
+    pub damaged: u64,
+    /// Texts that still read as a message after damage; these are not delivered.
+    pub still_read: u64,
+    /// Texts heard once more by a copy of the hub that they were written to.
+    pub reheard: u64,
     /// Messages received with effect, by type.
     pub received: [u64; 6],
     /// How often a hub began to lead, and how often after another one.
@@ -41,6 +53,11 @@ impl Tally {
         self.outcomes.add(&other.outcomes);
         sum(&mut self.received, &other.received);
         self.steps += other.steps;
+        self.restarts += other.restarts;
+        self.whole += other.whole;
+        self.damaged += other.damaged;
+        self.still_read += other.still_read;
+        self.reheard += other.reheard;
         self.led += other.led;
         self.leader_changed += other.leader_changed;
         self.contested += other.contested;
@@ -114,7 +131,7 @@ impl Home {
     /// Takes this many turns. A turn is any number of steps; often it is one, and sometimes none.
     pub fn run(mut self, turns: u64) -> Result<Tally, Failure> {
         while self.now < turns {
-            if let Err(reason) = self.turn() {
+            if let Err(reason) = self.turn().and_then(|()| self.rehear()) {
                 return Err(Failure { reason, steps: self.tally.steps, trail: self.trail });
             }
             self.now += 1;
@@ -245,13 +262,14 @@ impl Home {
         self.call(hub, START, 0, 0, b"")
     }
 
-    /// A hub restarts, or stays away for a while, or both.
+    /// A hub restarts, or stays away for a while, or both. Often it is one that leads.
     fn stop_one(&mut self) -> Result<(), Reason> {
-        let hub = self.any_hub();
-        if self.rng.percent(60) {
+        let leader = self.leader().filter(|_| self.rng.percent(50));
+        let hub = leader.unwrap_or(self.any_hub());
+        if self.rng.percent(30) {
             self.away[hub.0 as usize - 1] = self.now + 20 + self.rng.below(200);
         }
-        if self.rng.percent(50) { self.call(hub, RESTART, 0, 0, b"") } else { Ok(()) }
+        if self.rng.percent(80) { self.call(hub, RESTART, 0, 0, b"") } else { Ok(()) }
     }
 
     fn propose(&mut self) -> Result<(), Reason> {
@@ -315,32 +333,78 @@ impl Home {
 
     /// What is for a hub that is away waits for it, or is lost.
     fn hand_over(&mut self, letter: Letter) -> Result<(), Reason> {
-        if !self.is_away(letter.to) {
-            return self.call(letter.to, RECEIVE, 0, 0, &letter.text);
+        if self.is_away(letter.to) {
+            if self.rng.percent(30) {
+                let back = self.away[letter.to.0 as usize - 1];
+                self.network.hold(letter, back);
+            }
+            return Ok(());
         }
-        if self.rng.percent(30) {
-            let back = self.away[letter.to.0 as usize - 1];
-            self.network.hold(letter, back);
+        if self.rng.percent(self.network.weather.damaged) {
+            return self.hand_over_damaged(letter);
         }
-        Ok(())
+        self.tally.whole += 1;
+        self.call(letter.to, RECEIVE, 0, 0, &letter.text)
+    }
+
+    /// A text that still reads as a message after damage is lost: nobody promises anything of hubs that take what no hub wrote.
+    fn hand_over_damaged(&mut self, mut letter: Letter) -> Result<(), Reason> {
+        damage::text(&mut self.rng, &mut letter.text);
+        if read_message(&letter.text, &mut [0; FIELDS]).0 == Outcome::Done {
+            self.tally.still_read += 1;
+            return Ok(());
+        }
+        self.tally.damaged += 1;
+        self.take(letter.to, [RECEIVE, 0, 0], &letter.text, true)
+    }
+
+    /// A copy of a hub hears something that was ever written to it. Whatever the moment, that is no text to be refused as damaged.
+    fn rehear(&mut self) -> Result<(), Reason> {
+        let Some(Letter { to, text, .. }) = self.network.any_posted(&mut self.rng) else { return Ok(()) };
+        let (state, out) = (&mut self.state(*to).to_vec(), &mut vec![0; ROOM]);
+        let (n, own, input) = (self.n, *to, text);
+        let (outcome, _) = (self.step)(&mut Call { n, own, event: RECEIVE, a: 0, b: 0, state, input, out });
+        self.tally.reheard += 1;
+        let told = || format!("a copy of hub {} hears {}: {outcome:?}", own.0, String::from_utf8_lossy(text));
+        self.checker.hear(outcome).inspect_err(|_| self.trail.push_back(told()))
     }
 
     // ---- one step
 
     fn call(&mut self, hub: Hub, event: u32, a: u32, b: u32, input: &[u8]) -> Result<(), Reason> {
+        self.take(hub, [event, a, b], input, false)
+    }
+
+    /// Takes a step. If it is done, what it leaves is stored; else what was stored stays.
+    fn take(&mut self, hub: Hub, [event, a, b]: [u32; 3], input: &[u8], damaged: bool) -> Result<(), Reason> {
         let index = hub.0 as usize - 1;
         let before = self.states[index].clone();
-        let mut out = vec![0; ROOM];
-        let state = &mut self.states[index];
+        let lent = self.lent(&before, event);
+        let (mut left, mut out) = (lent.clone(), vec![0; ROOM]);
+        let state = &mut left;
         let (outcome, written) =
             (self.step)(&mut Call { n: self.n, own: hub, event, a, b, state, input, out: &mut out });
-        let text = &out[..written as usize];
+        if outcome == Outcome::Done {
+            self.states[index].clone_from(&left);
+        }
         self.note(&before, hub, event, input, outcome);
-        self.checker.see(&Deed { hub, event, input, outcome, state: &self.states[index], text })?;
+        let (stored, text) = (&self.states[index], &out[..written as usize]);
+        let deed = Deed { hub, event, input, damaged, outcome, lent: &lent, left: &left, stored, text };
+        self.checker.see(&deed)?;
         if let Some(message) = Message::read(text) {
             self.network.post(&mut self.rng, self.now, &message, text);
         }
         Ok(())
+    }
+
+    /// The bytes that a step begins with: those stored, but at a restart anything stands where the lost parts were.
+    fn lent(&mut self, stored: &[u8], event: u32) -> Vec<u8> {
+        let mut lent = stored.to_vec();
+        if event == RESTART {
+            self.tally.restarts += 1;
+            damage::lost(&mut self.rng, &mut lent);
+        }
+        lent
     }
 
     fn note(&mut self, before: &[u8], hub: Hub, event: u32, input: &[u8], outcome: Outcome) {

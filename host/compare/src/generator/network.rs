@@ -1,4 +1,4 @@
-//! A home's network: texts under way between hubs. It loses, repeats, reorders and delays them, but never makes one up or alters it.
+//! A home's network: texts under way between hubs. It loses, repeats, reorders, delays and damages them, but never makes one up.
 
 use crate::checker::message::{Kind, Message};
 use crate::generator::rng::Rng;
@@ -7,10 +7,11 @@ use independent::Hub;
 /// How a network and its hubs behave for a while: chances in a hundred.
 #[derive(Clone, Copy)]
 pub struct Weather {
-    /// That a letter is lost, comes again, or comes late.
+    /// That a letter is lost, comes again, comes late, or comes damaged.
     pub lost: u64,
     pub again: u64,
     pub late: u64,
+    pub damaged: u64,
     /// That an append is lost, beside that: leaders stay alone with what they add.
     pub unheard: u64,
     /// That what was just written is delivered at once, and so are the answers.
@@ -23,10 +24,20 @@ pub struct Weather {
     pub propose: u64,
 }
 
-const CALM: Weather =
-    Weather { lost: 2, again: 3, late: 2, unheard: 0, prompt: 80, split: 0, start: 1, stop: 1, propose: 15 };
+const CALM: Weather = Weather {
+    lost: 2,
+    again: 3,
+    late: 2,
+    damaged: 2,
+    unheard: 0,
+    prompt: 80,
+    split: 0,
+    start: 1,
+    stop: 2,
+    propose: 15,
+};
 const ROUGH: Weather =
-    Weather { lost: 15, again: 15, late: 15, prompt: 20, split: 20, start: 3, stop: 2, ..CALM };
+    Weather { lost: 15, again: 15, late: 15, damaged: 10, prompt: 20, split: 20, start: 3, stop: 4, ..CALM };
 const SPLIT: Weather =
     Weather { lost: 10, late: 5, unheard: 20, prompt: 60, split: 100, start: 8, propose: 30, ..CALM };
 pub const LONELY: Weather =
@@ -49,9 +60,14 @@ const MOST: usize = 120;
 /// How late a late letter may be, in turns.
 const LATEST: u64 = 600;
 
+/// How many letters count as the latest.
+const LATELY: usize = 20;
+
 pub struct Network {
     n: u32,
     letters: Vec<Letter>,
+    /// All that were ever posted, those that were lost among them.
+    posted: Vec<Letter>,
     pub weather: Weather,
     /// The side on which each hub is, at its number less one.
     sides: Vec<bool>,
@@ -59,7 +75,8 @@ pub struct Network {
 
 impl Network {
     pub fn new(n: u32) -> Network {
-        Network { n, letters: Vec::new(), weather: CALM, sides: vec![false; n as usize] }
+        let sides = vec![false; n as usize];
+        Network { n, letters: Vec::new(), posted: Vec::new(), weather: CALM, sides }
     }
 
     /// The weather changes, and with it who hears whom.
@@ -83,6 +100,7 @@ impl Network {
         let from = message.from();
         let meant = |hub: &Hub| *hub != from && (message.to() == Hub(0) || message.to() == *hub);
         for to in (1..=self.n).map(Hub).filter(meant) {
+            self.posted.push(Letter { to, text: text.to_vec(), due: now });
             let unheard = message.kind == Kind::Append && rng.percent(self.weather.unheard);
             if unheard || self.are_apart(from, to) || rng.percent(self.weather.lost) {
                 continue;
@@ -94,6 +112,13 @@ impl Network {
             let lost = rng.below(self.letters.len() as u64) as usize;
             self.letters.remove(lost);
         }
+    }
+
+    /// Any letter that was ever posted, of the latest as often as of all.
+    pub fn any_posted(&self, rng: &mut Rng) -> Option<&Letter> {
+        let skipped = if rng.percent(50) { self.posted.len().saturating_sub(LATELY) } else { 0 };
+        let some = &self.posted[skipped..];
+        if some.is_empty() { None } else { Some(&some[rng.below(some.len() as u64) as usize]) }
     }
 
     /// Keeps a letter until then.

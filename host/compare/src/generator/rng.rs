@@ -42,6 +42,11 @@ impl Rng {
         self.below(100) < often
     }
 
+    /// Fills bytes with any.
+    pub fn fill(&mut self, bytes: &mut [u8]) {
+        bytes.iter_mut().for_each(|byte| *byte = (self.next() >> 32) as u8);
+    }
+
     /// One of these.
     pub fn pick<T: Copy>(&mut self, of: &[T]) -> T {
         of[self.below(of.len() as u64) as usize]
