@@ -10,17 +10,21 @@
 //! 2 hears ask: yes        hub 2 receives `ask`, any number of times; what it answers is called `yes`
 //! 1 proposes c250         a command: its letter is the motor (c is 3), its number the ms of a buzz with gain 0.5
 //! 1 sends 2 from 0: all   hub 1 sends to hub 2 from prev 0
-//! 2 restarts
+//! 2 restarts              from its stored bytes
+//! 2 restarts over ff      the same, with ff in every byte of what is lost
 //! text forged             the lines `| key=value` that follow are a message that no hub has written
+//! all cut to 40: torn     `torn` is what is left of `all` when 40 bytes have come through
+//! all with x at 9: wrong  `wrong` is `all` with an x for its byte 9, counted from 0
 //! ```
 
 use crate::binding::call::{Call, PROPOSE, RECEIVE, RESTART, SEND, START, Step};
+use crate::binding::read_message;
 use crate::checker::message::hex;
 use crate::checker::{Checker, Deed};
-use crate::generator::messages::ROOM;
-use image::{CANDIDATE, Command, Image, LEADER, Row, STATE_SIZE, put_number};
+use crate::generator::messages::{FIELDS, ROOM};
+use image::{CANDIDATE, Command, Image, LEADER, Row, STATE_SIZE, lost_parts, put_number};
 use independent::{Hub, Outcome};
-use std::collections::{BTreeMap, BTreeSet};
+use std::collections::BTreeMap;
 use std::fmt::Write;
 
 /// The text of a script, or what is wrong with the script or with the hubs, and in which line.
@@ -42,15 +46,26 @@ struct Order {
     a: u32,
     b: u32,
     input: Vec<u8>,
-    /// Whether the input is a text that no hub wrote.
-    forged: bool,
+    origin: Origin,
+    /// What every byte of the lost parts holds before the step, if it is not what was stored.
+    lost: Option<u8>,
+}
+
+/// Where a text comes from.
+#[derive(Clone, Copy, PartialEq)]
+enum Origin {
+    /// A hub wrote it.
+    Written,
+    /// Nobody did, and it may read as a message all the same.
+    Forged,
+    /// A hub wrote it, and it was damaged until it reads as no message.
+    Damaged,
 }
 
 struct Stage {
     step: Step,
     states: Vec<Vec<u8>>,
-    texts: BTreeMap<String, Vec<u8>>,
-    forged: BTreeSet<String>,
+    texts: BTreeMap<String, (Origin, Vec<u8>)>,
     /// The text that `|` lines go on with.
     open: String,
     checker: Checker,
@@ -67,7 +82,6 @@ impl Stage {
             step,
             states: Vec::new(),
             texts: BTreeMap::new(),
-            forged: BTreeSet::new(),
             open: String::new(),
             checker: Checker::new(0),
             told: String::new(),
@@ -77,13 +91,15 @@ impl Stage {
     fn line(&mut self, line: &str) -> Result<(), String> {
         if let Some(text) = line.strip_prefix("| ") {
             let open = self.texts.get_mut(&self.open).ok_or("no text is open")?;
-            open.extend_from_slice(format!("{text}\n").as_bytes());
+            open.1.extend_from_slice(format!("{text}\n").as_bytes());
             return Ok(());
         }
         let (order, name) = line.split_once(": ").map_or((line, None), |(order, name)| (order, Some(name)));
         match order.split(' ').collect::<Vec<_>>()[..] {
             ["hubs", size] => self.gather(number(size)?),
             ["text", name] => self.forge(name),
+            [of, "cut", "to", size] => self.damage(of, name, |text| cut(text, size)),
+            [of, "with", byte, "at", at] => self.damage(of, name, |text| change(text, byte, at)),
             [hub, ref rest @ ..] => {
                 let order = self.order(number(hub)?, rest)?;
                 let _ = writeln!(self.told, "{line}");
@@ -101,8 +117,28 @@ impl Stage {
 
     fn forge(&mut self, name: &str) -> Result<(), String> {
         self.open = name.to_string();
-        self.forged.insert(name.to_string());
-        self.texts.insert(name.to_string(), Vec::new());
+        self.texts.insert(name.to_string(), (Origin::Forged, Vec::new()));
+        Ok(())
+    }
+
+    fn text(&self, name: &str) -> Result<&(Origin, Vec<u8>), String> {
+        self.texts.get(name).ok_or(format!("no message is called {name}"))
+    }
+
+    /// Takes what became of a text on its way. One that still reads as a message is not damaged, but another message.
+    fn damage(
+        &mut self,
+        of: &str,
+        name: Option<&str>,
+        damage: impl Fn(&mut Vec<u8>) -> Result<(), String>,
+    ) -> Result<(), String> {
+        let mut text = self.text(of)?.1.clone();
+        damage(&mut text)?;
+        if read_message(&text, &mut [0; FIELDS]).0 == Outcome::Done {
+            return Err("it still reads as a message".to_string());
+        }
+        let name = name.ok_or("a damaged text has a name")?;
+        self.texts.insert(name.to_string(), (Origin::Damaged, text));
         Ok(())
     }
 
@@ -110,27 +146,32 @@ impl Stage {
         if hub == 0 || hub as usize > self.states.len() {
             return Err(format!("there is no hub {hub}"));
         }
-        let plain = Order { hub: Hub(hub), event: 0, a: 0, b: 0, input: Vec::new(), forged: false };
+        let (hub, origin) = (Hub(hub), Origin::Written);
+        let plain = Order { hub, event: 0, a: 0, b: 0, input: Vec::new(), origin, lost: None };
         match *words {
             ["starts"] => Ok(Order { event: START, ..plain }),
             ["restarts"] => Ok(Order { event: RESTART, ..plain }),
+            ["restarts", "over", byte] => {
+                let lost = u8::from_str_radix(byte, 16).map_err(|_| format!("{byte} is no byte"))?;
+                Ok(Order { event: RESTART, lost: Some(lost), ..plain })
+            }
             ["proposes", name] => Ok(Order { event: PROPOSE, input: command(name)?.to_vec(), ..plain }),
             ["sends", peer, "from", prev] => {
                 Ok(Order { event: SEND, a: number(peer)?, b: number(prev)?, ..plain })
             }
             ["hears", name] => {
-                let input = self.texts.get(name).ok_or(format!("no message is called {name}"))?.clone();
-                Ok(Order { event: RECEIVE, input, forged: self.forged.contains(name), ..plain })
+                let (origin, input) = self.text(name)?.clone();
+                Ok(Order { event: RECEIVE, input, origin, ..plain })
             }
             _ => Err("no such order".to_string()),
         }
     }
 
     fn perform(&mut self, order: &Order, name: Option<&str>) -> Result<(), String> {
-        let &Order { hub, event, a, b, ref input, forged } = order;
+        let &Order { hub, event, a, b, ref input, origin, lost } = order;
         let n = self.states.len() as u32;
         let stored = &mut self.states[hub.0 as usize - 1];
-        let lent = stored.clone();
+        let lent = lost.map_or(stored.clone(), |byte| lost_filled(stored, byte));
         let (mut left, mut out) = (lent.clone(), vec![0; ROOM]);
         let (outcome, written) =
             (self.step)(&mut Call { n, own: hub, event, a, b, state: &mut left, input, out: &mut out });
@@ -139,8 +180,8 @@ impl Stage {
             stored.clone_from(&left);
         }
         // No machine stands behind a text that nobody wrote: only a refusal can be looked at, and it leaves the state.
-        if !forged || outcome == Outcome::Done {
-            let damaged = false;
+        if origin != Origin::Forged || outcome == Outcome::Done {
+            let damaged = origin == Origin::Damaged;
             let deed =
                 Deed { hub, event, input, damaged, outcome, lent: &lent, left: &left, stored, text: &out };
             self.checker.see(&deed).map_err(|reason| format!("{reason:?}"))?;
@@ -149,7 +190,7 @@ impl Stage {
         match (name, out.is_empty()) {
             (Some(_), true) => Err("no message was written".to_string()),
             (Some(name), false) => {
-                self.texts.insert(name.to_string(), out);
+                self.texts.insert(name.to_string(), (Origin::Written, out));
                 Ok(())
             }
             (None, _) => Ok(()),
@@ -181,6 +222,30 @@ impl Stage {
         self.told
     }
 }
+
+// ---- what damage and a loss of power do
+
+fn cut(text: &mut Vec<u8>, size: &str) -> Result<(), String> {
+    text.truncate(number(size)? as usize);
+    Ok(())
+}
+
+fn change(text: &mut [u8], byte: &str, at: &str) -> Result<(), String> {
+    let place = text.get_mut(number(at)? as usize).ok_or("the text ends before that")?;
+    *place = byte.bytes().next().ok_or("no byte is named")?;
+    Ok(())
+}
+
+/// A state's bytes with all that is lost at a restart filled so.
+fn lost_filled(stored: &[u8], byte: u8) -> Vec<u8> {
+    let mut bytes = stored.to_vec();
+    for part in lost_parts(stored) {
+        bytes[part].fill(byte);
+    }
+    bytes
+}
+
+// ---- words
 
 /// The words of a list; a dash for none.
 fn list(words: &[String]) -> String {

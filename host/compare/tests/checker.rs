@@ -3,7 +3,7 @@
 use compare::binding::call::{PROPOSE, RECEIVE, RESTART, START};
 use compare::checker::paxos::{Machine, Refusal};
 use compare::checker::{Checker, Deed, Reason};
-use image::{CANDIDATE, FOLLOWER, Image, LEADER, LOST, row_at};
+use image::{CANDIDATE, FOLLOWER, Image, LEADER, lost_parts, row_at};
 use independent::{Hub, Outcome, Term};
 
 /// A command for each number.
@@ -202,8 +202,7 @@ fn refusals_change_nothing_and_only_stale_ones_write() {
 /// What the checker says to a restart of hub 2, which has taken command 5, from its bytes with anything in the lost parts.
 fn restarts(outcome: Outcome, left: &[u8]) -> Result<(), Reason> {
     let mut lent = state(FOLLOWER, 1, 1, 0, &[5]);
-    lent[LOST].fill(0xff);
-    lent[row_at(2)..].fill(0xff);
+    lost_parts(&lent).into_iter().for_each(|part| lent[part].fill(0xff));
     let lent = &lent[..];
     fresh().chosen().0.see(&Deed { hub: Hub(2), event: RESTART, lent, ..deed(outcome, left) })
 }

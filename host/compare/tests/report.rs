@@ -3,7 +3,7 @@
 use compare::binding::call::{PROPOSE, RECEIVE, START};
 use compare::binding::watched::Watched;
 use compare::binding::{chosen, reported, sizes};
-use image::{HEAD_SIZE, LOST, STATE_SIZE};
+use image::{HEAD_SIZE, STATE_SIZE, lost_parts};
 use independent::{Group, LIMIT, Outcome, state, step};
 
 const BUZZ: [u8; 16] = [0, 3, 0, 1, 0, 0, 0, 250, 0x3f, 0, 0, 0, 0, 0, 0, 0];
@@ -72,7 +72,12 @@ fn refusals_come_in_order() {
     damaged[HEAD_SIZE + 5] = 0; // place 1's motor
     assert_eq!(ask(&damaged, 1, 16), (Outcome::BadState, vec![7; 16]));
     assert_eq!(chosen(&damaged), (Outcome::BadState, 0));
-    let mut lost = bytes;
-    lost[LOST].fill(0xff); // the lost parts are not looked at
-    assert_eq!(chosen(&lost), (Outcome::Done, 2));
+}
+
+#[test]
+fn the_lost_parts_are_not_looked_at() {
+    let mut bytes = leader();
+    lost_parts(&bytes).into_iter().for_each(|part| bytes[part].fill(0xff));
+    assert_eq!(chosen(&bytes), (Outcome::Done, 2));
+    assert_eq!(ask(&bytes, 2, 16), (Outcome::Done, STOP.to_vec()));
 }

@@ -5,7 +5,7 @@ use compare::broken::mistakes::MISTAKES;
 use compare::scenario::play;
 use std::path::{Path, PathBuf};
 
-const NAMES: [&str; 12] = [
+const NAMES: [&str; 13] = [
     "append-at-leader",
     "divergent-logs",
     "end-beyond-log",
@@ -14,6 +14,7 @@ const NAMES: [&str; 12] = [
     "old-entry-chosen",
     "old-entry-not-chosen",
     "own-end",
+    "power-cut",
     "repeated-vote",
     "second-candidate",
     "smaller-term",

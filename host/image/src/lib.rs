@@ -23,7 +23,7 @@ pub const ROLE_AT: usize = 20;
 pub const VOTERS_AT: usize = 21;
 pub const CONFIRMED_AT: usize = 28;
 
-/// The head's bytes that are lost at a restart. Of the rows those behind the log are.
+/// The head's bytes that are lost at a restart.
 pub const LOST: Range<usize> = GATHERED_AT..HEAD_SIZE;
 
 /// Roles.
@@ -69,6 +69,11 @@ pub fn row_at(place: u32) -> usize {
 /// Where the length stands that a hub has confirmed.
 pub fn confirmed_at(hub: u32) -> usize {
     CONFIRMED_AT + 4 * (hub as usize - 1)
+}
+
+/// All that is lost at a restart: of the head, and the rows behind the log.
+pub fn lost_parts(bytes: &[u8]) -> [Range<usize>; 2] {
+    [LOST, row_at(number_at(bytes, LENGTH_AT) + 1)..STATE_SIZE]
 }
 
 /// The bytes of rows, one behind the other.

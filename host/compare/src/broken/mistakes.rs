@@ -1,17 +1,17 @@
 //! For each scenario a hub that makes the mistake it is about: the independent program with that mistake put around its step. So one sees
 //! that the scenario's text would not come out of such a hub.
 
-use crate::binding::call::{Call, Step, independent};
+use crate::binding::call::{Call, RECEIVE, Step, independent};
 use crate::broken::{
-    chooses_with_one_less, counts_vote_twice, cuts_longer_log, heard, keeps_lesser_ballot,
+    chooses_with_one_less, counts_vote_twice, cuts_longer_log, heard, keeps_lesser_ballot, trusts_lost_parts,
     votes_for_lower_ballot,
 };
-use crate::checker::message::Kind;
+use crate::checker::message::{Kind, Message};
 use image::{FOLLOWER, Image, LEADER, LOST, TERM_AT, confirmed_at, put_number};
 use independent::Outcome;
 
 /// Each scenario with its mistake; some scenarios are about several.
-pub const MISTAKES: [(&str, Step); 14] = [
+pub const MISTAKES: [(&str, Step); 16] = [
     ("append-at-leader", steps_down),
     ("divergent-logs", cuts_longer_log),
     ("divergent-logs", keeps_lesser_ballot),
@@ -22,6 +22,8 @@ pub const MISTAKES: [(&str, Step); 14] = [
     ("old-entry-chosen", votes_for_lower_ballot),
     ("old-entry-not-chosen", chooses_with_one_less),
     ("own-end", acknowledges_own_end),
+    ("power-cut", trusts_lost_parts),
+    ("power-cut", takes_torn_append),
     ("repeated-vote", counts_vote_twice),
     ("second-candidate", votes_at_own_term),
     ("smaller-term", votes_at_own_term),
@@ -70,6 +72,19 @@ fn acknowledges_own_end(call: &mut Call) -> (Outcome, u32) {
     let text = format!("type=append-yes\nterm={term}\nfrom={from}\nto={to}\nend={end}\n");
     call.out[..text.len()].copy_from_slice(text.as_bytes());
     (outcome, text.len() as u32)
+}
+
+/// Of an append whose end is missing the entries that came whole are taken.
+fn takes_torn_append(call: &mut Call) -> (Outcome, u32) {
+    let lines = call.input.iter().rposition(|&byte| byte == b'\n').map_or(0, |last| last + 1);
+    match Message::read(&call.input[..lines]) {
+        Some(message) if call.event == RECEIVE && message.kind == Kind::Append => {
+            let count = message.entries.len() as u32;
+            let text = message.with_number("count", count).text();
+            independent(&mut call.with_input(text.as_bytes()))
+        }
+        _ => independent(call),
+    }
 }
 
 /// A follower says yes to whoever asks at its term, as if it had not heard of that term.

@@ -149,7 +149,7 @@ fn forgets_ballot(call: &mut Call) -> (Outcome, u32) {
 }
 
 /// Who finds itself a leader after a restart goes on as one, with the confirmed lengths that it finds, cut to what a leader's may be.
-fn trusts_lost_parts(call: &mut Call) -> (Outcome, u32) {
+pub(crate) fn trusts_lost_parts(call: &mut Call) -> (Outcome, u32) {
     let found = call.state.to_vec();
     let answer = independent(call);
     let Some(kept) = Image::read(call.state).filter(|_| call.event == RESTART) else { return answer };

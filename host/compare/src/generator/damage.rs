@@ -4,8 +4,8 @@ use crate::generator::messages::{ROOM, Sample};
 use crate::generator::rng::Rng;
 use crate::generator::states::at_most;
 use image::{
-    CANDIDATE, CONFIRMED_AT, FOLLOWER, GATHERED_AT, HEAD_SIZE, LEADER, LENGTH_AT, LOST, PLACES, ROLE_AT,
-    ROW_SIZE, STATE_SIZE, VOTERS_AT, confirmed_at, number_at, put_number, row_at,
+    CANDIDATE, CONFIRMED_AT, FOLLOWER, GATHERED_AT, HEAD_SIZE, LEADER, LENGTH_AT, PLACES, ROLE_AT, ROW_SIZE,
+    STATE_SIZE, VOTERS_AT, confirmed_at, lost_parts, number_at, put_number,
 };
 
 /// Numbers at and next to every edge that document 01 names.
@@ -77,13 +77,13 @@ fn next_number(rng: &mut Rng, bytes: &mut [u8]) {
     put_number(bytes, at, rng.pick(&[number.wrapping_sub(1), number.wrapping_add(1)]));
 }
 
-/// Whatever a loss of power may leave where the lost parts of a state were, the rows behind the log among them: any bytes, and more
-/// often such as a hub would believe.
+/// Whatever a loss of power may leave where the lost parts of a state were: any bytes, and more often such as a hub would believe.
 pub fn lost(rng: &mut Rng, bytes: &mut [u8]) {
-    let length = number_at(bytes, LENGTH_AT);
-    rng.fill(&mut bytes[LOST]);
-    rng.fill(&mut bytes[row_at(length + 1)..]);
+    for part in lost_parts(bytes) {
+        rng.fill(&mut bytes[part]);
+    }
     if !rng.one_in(3) {
+        let length = number_at(bytes, LENGTH_AT);
         put_number(bytes, GATHERED_AT, at_most(rng, PLACES - length));
         bytes[ROLE_AT] = rng.pick(&[FOLLOWER, CANDIDATE, LEADER]);
         bytes[VOTERS_AT..CONFIRMED_AT].iter_mut().for_each(|mark| *mark = rng.below(2) as u8);
