@@ -136,7 +136,7 @@ pub enum Outcome {
     /// Propose at a full log.
     LogFull = 11,
     /// Send to a number that is no peer's, or from a prev above the length.
-    BadSend = 12,
+    OutOfRange = 12,
     /// A message of own term that changes nothing and is not answered.
     NothingNew = 13,
 }
@@ -156,7 +156,7 @@ impl Outcome {
         Outcome::NoTermLeft,
         Outcome::BadCommand,
         Outcome::LogFull,
-        Outcome::BadSend,
+        Outcome::OutOfRange,
         Outcome::NothingNew,
     ];
 

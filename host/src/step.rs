@@ -146,7 +146,7 @@ fn send(state: &State, peer: Hub, prev: Place, out: &mut [u8]) -> Answer {
         return Answer::refused(Outcome::WrongRole);
     }
     if !state.group.has_peer(peer) || prev > state.head.length {
-        return Answer::refused(Outcome::BadSend);
+        return Answer::refused(Outcome::OutOfRange);
     }
     let rows = state.log_after(prev);
     let append =

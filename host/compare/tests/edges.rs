@@ -223,7 +223,7 @@ fn every_send_is_answered_alike() {
     println!("{tally:?}");
     assert!(
         tally.outcomes[Outcome::Done] >= 1_000
-            && tally.outcomes[Outcome::BadSend] >= 1_000
+            && tally.outcomes[Outcome::OutOfRange] >= 1_000
             && tally.outcomes[Outcome::WrongRole] >= 1_000
     );
 }

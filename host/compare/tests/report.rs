@@ -56,10 +56,10 @@ fn places_up_to_chosen_are_reported() {
 fn nothing_else_is_reported() {
     let bytes = leader();
     for place in [0, 3, 4, 256, 257, u32::MAX] {
-        assert_eq!(ask(&bytes, place, 16), (Outcome::BadSend, vec![7; 16]));
+        assert_eq!(ask(&bytes, place, 16), (Outcome::OutOfRange, vec![7; 16]));
     }
     assert_eq!(chosen(&vec![0; STATE_SIZE]), (Outcome::Done, 0));
-    assert_eq!(ask(&vec![0; STATE_SIZE], 1, 16), (Outcome::BadSend, vec![7; 16]));
+    assert_eq!(ask(&vec![0; STATE_SIZE], 1, 16), (Outcome::OutOfRange, vec![7; 16]));
 }
 
 #[test]

@@ -42,7 +42,7 @@ const GIVEN: [Outcome; 7] = [
     Outcome::WrongRole,
     Outcome::BadCommand,
     Outcome::LogFull,
-    Outcome::BadSend,
+    Outcome::OutOfRange,
     Outcome::NothingNew,
 ];
 

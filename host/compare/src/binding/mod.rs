@@ -24,6 +24,7 @@ mod library {
             out: *mut u8,
             length: usize,
         ) -> u32;
+        pub fn kritnamon_version() -> u32;
         pub fn kritnamon_state_size() -> usize;
         pub fn kritnamon_places() -> u32;
         pub fn kritnamon_output_size() -> usize;
@@ -136,6 +137,12 @@ pub fn step(
             out.len(),
         )
     })
+}
+
+/// The library's version.
+pub fn version() -> u32 {
+    // SAFETY: the function takes nothing.
+    unsafe { library::kritnamon_version() }
 }
 
 /// The size of a state, the places of a log, and the least size of an output.

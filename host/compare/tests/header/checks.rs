@@ -2,13 +2,15 @@
 //! is wrong with them.
 
 use crate::numbers::Numbers;
-use compare::binding::{read_command, read_message, sizes, step, write_command, write_message};
+use compare::binding::{read_command, read_message, sizes, step, version, write_command, write_message};
 use independent::Outcome;
 use std::fmt::Debug;
+use std::ops::Range;
 
 type Check = fn(&Numbers) -> Result<(), String>;
 
-const CHECKS: [Check; 9] = [
+const CHECKS: [Check; 11] = [
+    the_version_is_the_librarys,
     sizes_are_the_librarys,
     a_command_has_its_size,
     a_command_has_its_kinds,
@@ -17,6 +19,7 @@ const CHECKS: [Check; 9] = [
     a_message_has_its_numbers,
     an_entry_has_its_row,
     a_state_has_its_parts_and_events_do_what_they_say,
+    a_restart_looks_at_the_kept_parts,
     outcomes_are_provoked,
 ];
 
@@ -31,6 +34,10 @@ fn same<T: PartialEq + Debug>(what: &str, seen: T, said: T) -> Result<(), String
     } else {
         Err(format!("{what}: {seen:?} in the library, {said:?} by the header"))
     }
+}
+
+fn the_version_is_the_librarys(header: &Numbers) -> Result<(), String> {
+    same("VERSION", version(), header.get("VERSION")?)
 }
 
 fn sizes_are_the_librarys(header: &Numbers) -> Result<(), String> {
@@ -225,6 +232,26 @@ fn a_state_has_its_parts_and_events_do_what_they_say(header: &Numbers) -> Result
     hub.has("STATE_CONFIRMED", &[0; 7])
 }
 
+/// A leader of one entry restarts alike whatever stands between the kept head and the rows, and not with another byte at either edge.
+fn a_restart_looks_at_the_kept_parts(header: &Numbers) -> Result<(), String> {
+    let mut leader = Hub::leader(header)?;
+    leader.does("PROPOSE", 0, 0, &STOP, "")?;
+    let (kept, rows) = (header.size("STATE_KEPT")?, header.size("STATE_ROWS")?);
+    let restarted = |spoilt: Range<usize>| {
+        let mut hub = Hub { state: leader.state.clone(), ..leader };
+        hub.state.get_mut(spoilt).ok_or("no part of a state")?.fill(0xff);
+        Ok::<_, String>((hub.outcome("RESTART", b"")?, hub.state))
+    };
+    let whole = restarted(0..0)?;
+    same("behind STATE_KEPT", restarted(kept..rows)?, whole.clone())?;
+    for edge in [kept.wrapping_sub(1), rows] {
+        if restarted(edge..edge.wrapping_add(1))? == whole {
+            return Err(format!("byte {edge} is not kept"));
+        }
+    }
+    Ok(())
+}
+
 // ---- outcomes
 
 type Provocation = fn(&Numbers) -> Result<Outcome, String>;
@@ -243,7 +270,7 @@ const PROVOKED: [(Outcome, Provocation); 14] = [
     (Outcome::NoTermLeft, start_at_last_term),
     (Outcome::BadCommand, |header| Hub::leader(header)?.outcome("PROPOSE", b"")),
     (Outcome::LogFull, one_more_than_places),
-    (Outcome::BadSend, |header| Hub::leader(header)?.outcome("SEND", b"")),
+    (Outcome::OutOfRange, |header| Hub::leader(header)?.outcome("SEND", b"")),
     (Outcome::NothingNew, |header| Hub::leader(header)?.outcome("RECEIVE", YES)),
 ];
 
