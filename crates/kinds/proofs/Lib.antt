@@ -1,1 +1,3 @@
 pub mod BetweenLaws
+pub mod Clash
+pub mod AtLaws

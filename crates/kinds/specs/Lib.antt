@@ -1,3 +1,4 @@
 pub mod Of
 pub mod Sizes
 pub mod Outcome
+pub mod Hubs

@@ -17,6 +17,18 @@ pub record Who : Type 0 where
 unfoldable pub isSize : ℕ → Bool
 isSize n = eqb n 3 || (eqb n 5 || eqb n 7)
 
+-- A group: the hubs that keep one log together. N is the same for all of them.
+pub record Group : Type 0 where
+  pub size : ℕ
+
+-- A group that may be.
+abbrev pub isGroup : Group → Bool
+isGroup g = isSize (g .size)
+
+-- Hub h of the group.
+abbrev pub hubOf : Group → ℕ → Who
+hubOf g h = record { size = g .size; own = h }
+
 -- Hubs are 1..N.
 unfoldable pub isHub : ℕ → ℕ → Bool
 isHub n h = between 1 n h

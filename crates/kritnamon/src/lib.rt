@@ -10,7 +10,7 @@ ghost use Rattle.state.specs.Image.{state-size};
 ghost use Rattle.rules.specs.Step.{stepOf};
 ghost use Rattle.step.specs.Promise.{Answers as Takes, call, whoIn};
 ghost use Rattle.step.specs.Gate.{gate};
-ghost use Rattle.report.specs.Report.{Reports, reportOf, chosenOf};
+ghost use Rattle.rules.specs.Report.{Reports, reportOf, chosenOf};
 ghost use Rattle.kritnamon.specs.Message.{Tells, tells};
 ghost use Rattle.kritnamon.specs.Numbers.{kindIn, ownIn, numbersIn};
 ghost use Rattle.kritnamon.specs.Version.{version};

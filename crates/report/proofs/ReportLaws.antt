@@ -3,17 +3,18 @@ use Prim.Native.Nat.{ℕ, zero, suc, _+_, _-_, _*_, _≤_, _<_}
 use native.Mathlib.Omega.{arith}
 use mathlib.Core.Path.{_≡_, refl, sym, _∙_, ap}
 use mathlib.Core.Bool.{true, false}
-use mathlib.Core.List.{List, [], _∷_, _++_, map}
+use mathlib.Core.List.{List, _++_, map}
 use mathlib.Core.Option.{Option, none, some}
 use borrow.Author.Tests.{lt-ltb, le-ltb}
-use lib.ListN.{length, take, drop, length-take, length-map}
+use lib.ListN.{length, take, drop, getElem?, length-take, length-map}
 use lib.Seq.{sets, sets-eq, drop-drop}
+use Rattle.kinds.proofs.AtLaws.{at-out}
 use Rattle.command.specs.Words.{part, wordAt}
 use Rattle.command.specs.Command.{Command, command-size, commandBytes, commandOf}
 use Rattle.command.specs.Entry.{Entry}
 use Rattle.command.proofs.WordsLaws.{Bytes}
 use Rattle.command.proofs.CommandLaws.{commandBytes-length}
-use Rattle.state.specs.State.{reported}
+use Rattle.state.specs.State.{Kept, reported, reportedAt}
 use Rattle.state.specs.Image.{head-size, row-size, state-size, rowsIn, entryOf, keptIn, readKept}
 use Rattle.state.specs.Head.{headIn}
 use Rattle.state.specs.Check.{isSome}
@@ -23,7 +24,7 @@ use Rattle.state.proofs.ImageLaws.{readKept-sound}
 use Rattle.rules.specs.Outcome.{done, bad-state, short-output, bad-send}
 use Rattle.step.specs.declared.Words.{Words}
 use Rattle.step.specs.Words.{wordsAt, wordsBytes}
-use Rattle.report.specs.Report.{commandAt, Report, told, reporting, reportOf, Reports, counting, chosenOf}
+use Rattle.rules.specs.Report.{Report, told, reporting, reportOf, Reports, counting, chosenOf}
 use Rattle.step.proofs.GateLaws.{readKept-some, readKept-none}
 use Rattle.step.proofs.WordsLaws.{commandIn-at, command-words, duration-below}
 use Rattle.step.proofs.LostLaws.{kept-length, kept-size, kept-within}
@@ -34,31 +35,25 @@ reports-unique p q = (p .outcome-is ∙ sym (q .outcome-is), p .output-is ∙ sy
 
 -- ---- the command at a place
 
--- There is no place 0.
-pub commandAt-zero : (cs : List Command) → commandAt cs 0 ≡ none
-unfolding commandAt
-commandAt-zero [] = refl
-commandAt-zero (c ∷ cs) = refl
-
--- There is none past the end.
-pub commandAt-past : (cs : List Command) (p : ℕ) → length cs < p → commandAt cs p ≡ none
-unfolding commandAt
-commandAt-past [] p h = refl
-commandAt-past (c ∷ cs) zero h = refl
-commandAt-past (c ∷ cs) (suc zero) h = absurd (omega arith)
-commandAt-past (c ∷ cs) (suc (suc p)) h = commandAt-past cs (suc p) (omega arith)
+-- There is none past what is chosen.
+pub reportedAt-past : (k : Kept) (p : ℕ) → k .chosen < p → reportedAt k p ≡ none
+unfolding reportedAt reported
+reportedAt-past k zero h = absurd (omega arith)
+reportedAt-past k (suc i) h =
+    let shown = take (k .chosen) (k .log) in
+    at-out (reported k) i (omega (arith, length-map shown (λ (e : Entry). e .command), length-take (k .chosen) (k .log)))
 
 -- The command of row i, among the first rows.
-commandAt-row :
+row-reported :
     (i m n : ℕ) (l : List ℕ) → i < m → m ≤ n
-    → commandAt (map (λ e. e .command) (take m (rowsIn entryOf n l))) (suc i) ≡ some (commandOf (part 4 command-size (drop (i * row-size) l)))
-unfolding commandAt rowsIn
-commandAt-row i zero n l h k = absurd (omega arith)
-commandAt-row i (suc m) zero l h k = absurd (omega arith)
-commandAt-row zero (suc m) (suc n) l h k = refl
-commandAt-row (suc i) (suc m) (suc n) l h k =
+    → getElem? (map (λ e. e .command) (take m (rowsIn entryOf n l))) i ≡ some (commandOf (part 4 command-size (drop (i * row-size) l)))
+unfolding rowsIn
+row-reported i zero n l h k = absurd (omega arith)
+row-reported i (suc m) zero l h k = absurd (omega arith)
+row-reported zero (suc m) (suc n) l h k = refl
+row-reported (suc i) (suc m) (suc n) l h k =
     let e : suc i * row-size ≡ row-size + i * row-size = omega arith in
-    rw (e, ← drop-drop (i * row-size) row-size l) (commandAt-row i m n (drop row-size l) (omega arith) (omega arith))
+    rw (e, ← drop-drop (i * row-size) row-size l) (row-reported i m n (drop row-size l) (omega arith) (omega arith))
 
 -- ---- the answers
 
@@ -74,17 +69,18 @@ module _ (l out : List ℕ) (p : ℕ) where
   reported-short h short = rw (readKept-some l h, lt-ltb (length out) 16 short) (record { outcome-is = refl; output-is = refl })
 
   module _ (o : Bytes l) (h : isSome (readKept l) ≡ true) (room : 16 ≤ length out) where
-    answered : (a : Option Command) → commandAt (reported (keptIn l)) p ≡ a → reportOf l p out ≡ told a out
+    answered : (a : Option Command) → reportedAt (keptIn l) p ≡ a → reportOf l p out ≡ told a out
     unfolding reporting
     answered a e = rw (readKept-some l h, le-ltb (length out) 16 room, e)
 
-    refused : commandAt (reported (keptIn l)) p ≡ none → Reports (reportOf l p out) bad-send out
+    refused : reportedAt (keptIn l) p ≡ none → Reports (reportOf l p out) bad-send out
     unfolding told
     refused e = rw (answered none e) (record { outcome-is = refl; output-is = refl })
 
     -- Place 0.
     pub reported-zero : p ≡ 0 → Reports (reportOf l p out) bad-send out
-    reported-zero z = refused (rw z (commandAt-zero (reported (keptIn l))))
+    unfolding reportedAt
+    reported-zero z = refused (rw z refl)
 
     chosen-is : headIn l .chosen .0 ≡ keptIn l .chosen
     unfolding headIn keptIn
@@ -92,11 +88,7 @@ module _ (l out : List ℕ) (p : ℕ) where
 
     -- A place past what is chosen.
     pub reported-past : headIn l .chosen .0 < p → Reports (reportOf l p out) bad-send out
-    unfolding reported
-    reported-past above =
-        let k = keptIn l in
-        let shown = take (k .chosen) (k .log) in
-        refused (commandAt-past (reported k) p (omega (arith, length-map shown (λ (e : Entry). e .command), length-take (k .chosen) (k .log), chosen-is)))
+    reported-past above = refused (reportedAt-past (keptIn l) p (omega (arith, chosen-is)))
 
     chosen-within : headIn l .chosen .0 ≤ headIn l .length .0
     chosen-within = omega (arith, kept-length l o h, chosen-is, legalKept-is (keptIn l) (readKept-sound l (keptIn l) (readKept-some l h) .1) .chosen)
@@ -108,14 +100,14 @@ module _ (l out : List ℕ) (p : ℕ) where
       unfolding state-size
       reported-inside = omega (arith, chosen-within, kept-size l o h, kept-within l o h)
 
-      stands : commandAt (reported (keptIn l)) p ≡ some (commandOf (part (head-size + (p - 1) * row-size + 4) command-size l))
-      unfolding reported keptIn headIn
+      stands : reportedAt (keptIn l) p ≡ some (commandOf (part (head-size + (p - 1) * row-size + 4) command-size l))
+      unfolding reportedAt reported keptIn headIn
       stands =
           let i = p - 1 in
           let e : p ≡ suc i = omega arith in
-          let row = commandAt-row i (wordAt 8 4 l) (wordAt 12 4 l) (drop head-size l) (omega arith) (omega (arith, chosen-within)) in
+          let row = row-reported i (wordAt 8 4 l) (wordAt 12 4 l) (drop head-size l) (omega arith) (omega (arith, chosen-within)) in
           let place = ap (part 4 command-size) (drop-drop (i * row-size) head-size l) ∙ part-drop 4 command-size (head-size + i * row-size) l in
-          ap (commandAt (map (λ (x : Entry). x .command) (take (wordAt 8 4 l) (rowsIn entryOf (wordAt 12 4 l) (drop head-size l))))) e
+          ap (reportedAt (keptIn l)) e
           ∙ row
           ∙ ap (λ (bs : List ℕ). some (commandOf bs)) place
 

@@ -1,6 +1,6 @@
 // What a hub reports: the commands at places 1 to chosen of its log, and no others. The kept parts of its state alone are looked at.
 ghost use mathlib.Core.Path.{_≡_};
-ghost use Rattle.report.specs.Report.{Reports, reportOf, chosenOf};
+ghost use Rattle.rules.specs.Report.{Reports, reportOf, chosenOf};
 
 // The bytes of a command.
 const COMMAND: usize = 16;

@@ -1,10 +1,11 @@
 -- Start, propose, send and restart (rules R17 to R20), each at a legal state. Receive has a file of its own. Assumes nothing.
-use Prim.Native.Nat.{ℕ, _+_, _-_}
+use Prim.Native.Nat.{ℕ, _+_}
 use mathlib.Core.Bool.{Bool, true, false, cond, not, _||_}
 use mathlib.Core.List.{List, [], _∷_, _++_, map}
 use mathlib.Core.Option.{Option, none, some}
 use lib.Dec.{leb, ltb, eqb}
-use lib.ListN.{length, drop, getD, set, replicate}
+use lib.ListN.{length, drop, getD, replicate}
+pub use Rattle.kinds.specs.Hubs.{forHub, setHub}
 use Rattle.kinds.specs.Sizes.{Who, isHub, hubs-most, term-most, limit}
 use Rattle.command.specs.Command.{Command}
 use Rattle.command.specs.Entry.{Entry}
@@ -36,13 +37,6 @@ len s = length (s .kept .log)
 -- The term of the entry at a place; 0 at place 0.
 unfoldable pub termAt : List Entry → ℕ → ℕ
 termAt log p = getD (0 ∷ map (λ e. e .term) log) p 0
-
--- Of a list over the seven hubs, what stands for hub h, and the list with x there.
-abbrev pub forHub : {A : Type 0} → List A → ℕ → A → A
-forHub l h none-there = getD l (h - 1) none-there
-
-abbrev pub setHub : {A : Type 0} → List A → ℕ → A → List A
-setHub l h x = set l (h - 1) x
 
 -- A hub writes its term after the step, itself as from, the asker or peer as to.
 unfoldable pub says : Who → State → ℕ → Body → Message

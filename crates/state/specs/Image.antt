@@ -10,7 +10,7 @@ use Rattle.kinds.specs.Sizes.{Who, hubs-most, limit}
 use Rattle.command.specs.Words.{word, part, wordAt}
 use Rattle.command.specs.Command.{Command, command-size, commandBytes, commandOf}
 use Rattle.command.specs.Entry.{Entry}
-use Rattle.state.specs.State.{Kept, Pair, Lost, follower, candidate, leader, State}
+use Rattle.state.specs.State.{Kept, Pair, Lost, follower, candidate, leader, State, reportedAt}
 use Rattle.state.specs.Legal.{legalKept, legalState}
 
 -- ---- sizes and places of the layout
@@ -139,3 +139,9 @@ unfoldable pub readKept : List ℕ → Option Kept
 readKept l =
     let k = keptIn l in
     cond (eqb (length l) state-size && legalKept k) (some k) none
+
+-- ---- what bytes report
+
+-- The command that the hub of these bytes reports at a place. Bytes whose kept parts are not legal report nothing.
+unfoldable pub reportedIn : List ℕ → ℕ → Option Command
+reportedIn l p = elim (readKept l) [ none ↦ none | some k ↦ reportedAt k p ]

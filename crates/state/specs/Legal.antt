@@ -5,22 +5,11 @@ use mathlib.Core.Bool.{Bool, true, false, _&&_, _||_, not}
 use mathlib.Core.List.{List, [], _∷_}
 use lib.Dec.{leb, ltb, eqb}
 use lib.ListN.{length, drop, getD}
+unfoldable pub use Rattle.kinds.specs.Hubs.{all, count}
 use Rattle.kinds.specs.Sizes.{between, Who, hubs-most, majority, term-most, limit}
 use Rattle.command.specs.Command.{legalCommand}
 use Rattle.command.specs.Entry.{legalEntries}
 use Rattle.state.specs.State.{Kept, Pair, Lost, follower, candidate, leader, State}
-
--- ---- lists
-
--- All of a list's members have a property.
-unfoldable pub all : {A : Type 0} → (A → Bool) → List A → Bool
-all P [] = true
-all P (x ∷ xs) = P x && all P xs
-
--- How many of a list's members have a property.
-unfoldable pub count : {A : Type 0} → (A → Bool) → List A → ℕ
-count P [] = 0
-count P (x ∷ xs) = elim (P x) [ true ↦ 1 + count P xs | false ↦ count P xs ]
 
 -- ---- the kept parts
 

@@ -1,8 +1,9 @@
 -- A hub's state (rules R10 to R13): what a hub keeps over a restart and what it loses, a fresh hub, and what a hub reports. Assumes nothing.
-use Prim.Native.Nat.{ℕ}
+use Prim.Native.Nat.{ℕ, zero, suc}
 use mathlib.Core.Bool.{Bool}
 use mathlib.Core.List.{List, [], map}
-use lib.ListN.{take}
+use mathlib.Core.Option.{Option, none}
+use lib.ListN.{take, getElem?}
 use Rattle.command.specs.Command.{Command}
 use Rattle.command.specs.Entry.{Entry}
 
@@ -36,3 +37,8 @@ fresh = record { kept = record { term = 0; ballot = 0; chosen = 0; log = [] }; l
 -- A hub reports the commands at places 1 to chosen of its log, and no others.
 unfoldable pub reported : Kept → List Command
 reported k = map (λ e. e .command) (take (k .chosen) (k .log))
+
+-- The command that it reports at a place; places are counted from 1.
+unfoldable pub reportedAt : Kept → ℕ → Option Command
+reportedAt k zero = none
+reportedAt k (suc i) = getElem? (reported k) i

@@ -1,23 +1,16 @@
--- A hub reports the commands at places 1 to chosen of its log, and no others (rule R13): what a caller that asks for one is told, and how many there are.
--- Assumes nothing.
-use Prim.Native.Nat.{ℕ, zero, suc, _*_}
+-- A hub reports the commands at places 1 to chosen of its log, and no others (rule R13): what a caller that asks for one is told, and how
+-- many there are. `kritnamon_reported` and `kritnamon_chosen` promise this. Assumes nothing.
+use Prim.Native.Nat.{ℕ, _*_}
 use mathlib.Core.Path.{_≡_}
 use mathlib.Core.Bool.{cond}
-use mathlib.Core.List.{List, [], _∷_, _++_}
+use mathlib.Core.List.{List, _++_}
 use mathlib.Core.Option.{Option, none, some}
 use lib.Dec.{ltb}
 use lib.ListN.{length, drop}
 use Rattle.command.specs.Command.{Command, command-size, commandBytes}
-use Rattle.state.specs.State.{Kept, reported}
+use Rattle.state.specs.State.{Kept, reportedAt}
 use Rattle.state.specs.Image.{readKept}
 use Rattle.rules.specs.Outcome.{done, bad-state, short-output, bad-send}
-
--- The command at a place of a list, places from 1 on; none elsewhere.
-unfoldable pub commandAt : List Command → ℕ → Option Command
-commandAt [] p = none
-commandAt (c ∷ cs) zero = none
-commandAt (c ∷ cs) (suc zero) = some c
-commandAt (c ∷ cs) (suc (suc p)) = commandAt cs (suc p)
 
 -- What a question comes to: an outcome, and the bytes that it leaves.
 pub record Report : Type 0 where
@@ -33,7 +26,7 @@ told (some c) out = record { outcome = done; output = commandBytes c ++ drop com
 unfoldable pub reporting : Option Kept → ℕ → List ℕ → Report
 reporting none p out = record { outcome = bad-state; output = out }
 reporting (some k) p out =
-    cond (ltb (length out) command-size) (record { outcome = short-output; output = out }) (told (commandAt (reported k) p) out)
+    cond (ltb (length out) command-size) (record { outcome = short-output; output = out }) (told (reportedAt k p) out)
 
 abbrev pub reportOf : List ℕ → ℕ → List ℕ → Report
 reportOf state p out = reporting (readKept state) p out
