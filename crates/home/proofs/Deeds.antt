@@ -1,51 +1,45 @@
--- One deed on bytes is one event of the group that they are written out from, or a refusal; and for each event there is a deed.
--- Assumes nothing.
+-- A home is a household written out: after each deed it is as it was, or a hub has met an event; and for each event there
+-- is a deed. Assumes nothing.
 use Prim.Native.Nat.{ℕ, _≤_}
 use native.Mathlib.Omega.{arith}
 use mathlib.Core.Path.{_≡_, refl, sym, _∙_, ap, subst}
-use mathlib.Core.Bool.{true}
-use mathlib.Core.List.{List, [], _∷_, map}
+use mathlib.Core.Logic.{inl, ⊎-elim}
+use mathlib.Core.Bool.{Bool, true, false, cond}
+use mathlib.Core.List.{List, [], _∷_}
 use mathlib.Core.Option.{Option, none, some}
 use borrow.Author.Tests.{eqb-false}
 use lib.Dec.{eqb}
-use lib.ListN.{length, take, replicate, length-replicate}
-use Rattle.kinds.specs.Sizes.{isSize, isHub, text-room}
+use lib.ListN.{length, take, drop, replicate, length-replicate}
+use lib.Seq.{take-append-seam}
+use Rattle.kinds.specs.Sizes.{Group, isGroup, isHub, hubOf, text-room}
 use Rattle.command.specs.Command.{Command}
 use Rattle.message.specs.Message.{Message}
+use Rattle.message.specs.Legal.{legalMessage}
 use Rattle.message.specs.Text.{text, read}
 use Rattle.message.proofs.ReadLaws.{read-text}
 use Rattle.state.specs.Image.{image}
 use Rattle.rules.specs.Outcome.{Next, done}
-use Rattle.rules.specs.Step.{Answer, start-event, propose-event, send-event, restart-event, receive-event, eventOf, refusal, written, answer, receiving, acting, stepOf}
+use Rattle.rules.specs.Step.{Answer, start-event, propose-event, send-event, restart-event, receive-event, eventOf, refusal, over, written, answer, receiving, acting, stepOf}
 use Rattle.rules.specs.Events.{restart}
-use Rattle.rules.specs.Happens.{Occasion, to-start, to-propose, to-send, to-restart, to-receive, happens, Meets}
-use Rattle.rules.proofs.BoolLaws.{cond-either}
-use Rattle.rules.proofs.Theorems.{refusal-leaves}
+use Rattle.rules.specs.Happens.{Occasion, to-start, to-propose, to-send, to-restart, to-receive, happens}
+use Rattle.rules.proofs.Theorems.{refusal-leaves, message-is-legal}
 use Rattle.paxos.specs.Put.{put}
 use Rattle.paxos.specs.Paxos.{_∈_, here, there}
-use Rattle.paxos.proofs.Member.{clash, new, nothing}
+use Rattle.paxos.proofs.Member.{clash, new}
 use Rattle.paxos.proofs.PutLaws.{put-cases, put-same, put-other}
 use Rattle.views.specs.Hall.{Hall}
-use Rattle.views.specs.Hall as hall
-use Rattle.views.specs.Acts.{Acts}
-use Rattle.home.specs.Home.{Home, Deed, callFor, Honest, askedBy, joining, after}
-use Rattle.home.specs.Group.{Group, hubOf, adding, askedFor, joins, with-asked, met, Written}
-use Rattle.home.specs.Stands.{Stands}
-use Rattle.home.specs.Machine.{IsWritten, StandsFor}
-use Rattle.home.proofs.Values.{only-asked, legal-at, met-stands}
-use Rattle.home.proofs.Bytes.{offered, offered-asked, Brings, brings, step-acts, step-either, took, joining-text}
+use Rattle.engine.specs.Home.{joining, adding, after, Fair}
+use Rattle.engine.specs.Rules.{Household, met, Heard}
+use Rattle.engine.specs.Written as writing
+use Rattle.engine.specs.Written.{Becomes, stays, meets}
+use Rattle.home.specs.Hub.{Deed, callFor, isRestart, textFor, commandFor, commandOf, hub-engine, Home, hub-rules, hub-writing}
+use Rattle.home.proofs.Bytes.{Brings, brings-start, brings-propose, brings-send, brings-restart, brings-receive, Sees, refused-not, seen-image, seen-kept, step-acts, step-either}
+use Rattle.home.proofs.Events as events
+use Rattle.home.proofs.Events.{Stands}
 
--- ---- texts
-
--- A text among the texts of messages is one of theirs.
-pub texts-in : {t : List ℕ} (l : List Message) → t ∈ map text l → (m : Message) × (m ∈ l) × (t ≡ text m)
-texts-in [] i = nothing i
-texts-in (m ∷ l) i = new i (λ e. (m, here, e)) (λ old. let (w, among, is) = texts-in l old in (w, there among, is))
-
--- The text of each of them is.
-pub in-texts : {m : Message} {l : List Message} → m ∈ l → text m ∈ map text l
-in-texts here = here
-in-texts (there i) = there (in-texts i)
+-- The home is the household, written out.
+abbrev pub IsWritten : Home → Household hub-rules → Type 0
+IsWritten H W = writing.IsWritten hub-engine hub-rules hub-writing H W
 
 -- ---- what a deed leaves
 
@@ -53,179 +47,195 @@ in-texts (there i) = there (in-texts i)
 abbrev left : Home → Deed → Answer → Home
 left H d a =
     record {
-      states = put (H .states) (d .hub) (a .state);
+      stored = put (H .stored) (d .hub) (cond (eqb (a .outcome) done) (a .state) (H .stored (d .hub)));
       sent = joining (take (a .wrote) (a .output)) (H .sent);
-      asked = askedBy (eventOf (d .event)) (d .input) (H .asked);
+      orders = cond (eqb (a .outcome) done) (adding (commandFor (eventOf (d .event)) (d .input)) (H .orders)) (H .orders);
     }
 
--- After a refusal: nothing has happened, but that a command may have been asked for.
+-- After a refusal nothing has happened.
 refused-written :
-    (N : ℕ) (H : Home) (G : Group) (d : Deed) → IsWritten H G → (k : ℕ)
-    → IsWritten (left H d (refusal (callFor N H d) k)) (with-asked G (adding (offered (eventOf (d .event)) (d .input)) (G .asked)))
-unfolding callFor refusal joining
-refused-written N H G d is k =
-    let e = eventOf (d .event) in
+    (G : Group) (H : Home) (W : Household hub-rules) (d : Deed) → IsWritten H W → (k : ℕ) → eqb k done ≡ false
+    → IsWritten (left H d (refusal (callFor G d) k)) W
+unfolding refusal joining
+refused-written G H W d is k ne =
     record {
-      states = put-cases (λ g y. y ≡ image (G .states g)) (H .states) (d .hub) (H .states (d .hub)) (is .states (d .hub)) (λ g ne. is .states g);
-      sent = is .sent;
-      asked = offered-asked e (d .input) (H .asked) ∙ ap (adding (offered e (d .input))) (is .asked);
+      states =
+          put-cases (λ g y. y ≡ image (W .states g)) (H .stored) (d .hub) _ (rw ne (is .states (d .hub))) (λ g other. is .states g);
+      texts = is .texts;
+      messages = is .messages;
+      orders = rw ne (is .orders);
     }
 
-module _ (N : ℕ) (H : Home) (G : Group) (J : Hall Command) (d : Deed) (is : IsWritten H G) (ok : Stands N G J)
-    (size : isSize N ≡ true) (own : isHub N (d .hub) ≡ true) (o : Occasion) (b : Brings (callFor N H d) o) (wrote : Written G o) where
+-- What was written is read as the message that it is the text of.
+module _ (H : Home) (W : Household hub-rules) (is : IsWritten H W) where
+  -- A text is not empty, so it joins the others.
+  joined : (w : Message) → joining (text w) (H .sent) ≡ text w ∷ H .sent
+  unfolding joining text
+  joined w = refl
+
+  texts-more :
+      (x : Option Message) → ((w : Message) → x ≡ some w → legalMessage w ≡ true)
+      → (t : List ℕ) → t ∈ joining (written x) (H .sent) → (m : Message) × (read t ≡ some m) × (m ∈ adding x (W .sent))
+  unfolding written joining adding
+  texts-more none legal t i = is .texts t i
+  texts-more (some w) legal t i =
+      new (subst (λ (l : List (List ℕ)). t ∈ l) (joined w) i)
+      (λ e. (w, ap read e ∙ read-text w (legal w refl), here))
+      (λ old. let (m, r, among) = is .texts t old in (m, r, there among))
+
+  messages-more :
+      (x : Option Message) → ((w : Message) → x ≡ some w → legalMessage w ≡ true)
+      → (m : Message) → m ∈ adding x (W .sent) → (t : List ℕ) × (t ∈ joining (written x) (H .sent)) × (read t ≡ some m)
+  unfolding written joining adding
+  messages-more none legal m i = is .messages m i
+  messages-more (some w) legal m i =
+      new i
+      (λ e. (text w, subst (λ (l : List (List ℕ)). text w ∈ l) (sym (joined w)) here, read-text w (legal w refl) ∙ ap some (sym e)))
+      (λ old. let (t, among, r) = is .messages m old in (t, subst (λ (l : List (List ℕ)). t ∈ l) (sym (joined w)) (there among), r))
+
+module _ (G : Group) (group : isGroup G ≡ true) (H : Home) (W : Household hub-rules) (J : Hall Command) (d : Deed) (is : IsWritten H W)
+    (ok : Stands G W J) (own : isHub (G .size) (d .hub) ≡ true) (o : Occasion) (b : Brings (callFor G d) o) (heard : Heard hub-rules (W .sent) o) where
   abbrev n : Next
-  n = happens (hubOf N (d .hub)) (G .states (d .hub)) o
+  n = happens (hubOf G (d .hub)) (W .states (d .hub)) o
 
-  meets : Meets (hubOf N (d .hub)) (G .states (d .hub)) o
-  meets = record { size = size; own = own; legal = legal-at N (d .hub) size own ok o wrote }
-
-  -- The bytes that are left are the next state's image.
-  left-image : answer (callFor N H d) n .state ≡ image (n .state)
+  -- What is stored is the next state's image.
+  stored-image :
+      cond (eqb (n .outcome) done) (answer (callFor G d) n .state) (H .stored (d .hub)) ≡ image (n .state)
   unfolding callFor answer
-  left-image =
-      cond-either (λ (l : List ℕ). l ≡ image (n .state)) (eqb (n .outcome) done)
-      (λ t. refl)
-      (λ t.
-      is .states (d .hub)
-      ∙ ap image (sym (refusal-leaves (hubOf N (d .hub)) (G .states (d .hub)) o meets (eqb-false (n .outcome) done t))))
+  stored-image =
+      by (eqb (n .outcome) done) refl
+    where
+      by : (x : Bool) → eqb (n .outcome) done ≡ x → cond x (cond x (image (n .state)) (d .state)) (H .stored (d .hub)) ≡ image (n .state)
+      by true e = refl
+      by false e =
+          is .states (d .hub)
+          ∙ ap image
+          (sym (refusal-leaves (hubOf G (d .hub)) (W .states (d .hub)) o (events.meets G group W J ok (d .hub) own o heard) (eqb-false (n .outcome) done e)))
 
-  -- What was written is the message's text.
-  joined : (x : Option Message) → joining (written x) (H .sent) ≡ map text (joins x (G .sent))
-  unfolding written joining
-  joined none = is .sent
-  joined (some w) = joining-text w (H .sent) ∙ ap (λ (l : List (List ℕ)). text w ∷ l) (is .sent)
+  legal : (w : Message) → n .message ≡ some w → legalMessage w ≡ true
+  legal w e = message-is-legal (hubOf G (d .hub)) (W .states (d .hub)) o (events.meets G group W J ok (d .hub) own o heard) w e .legal
 
-  -- After an event: the group has met it.
-  happened-written : IsWritten (left H d (answer (callFor N H d) n)) (met N G (d .hub) o)
-  unfolding answer callFor
+  -- A message that is written is what the output begins with.
+  took : (t out : List ℕ) → take (length t) (over t out) ≡ t
+  unfolding over
+  took t out = take-append-seam t (drop (length t) out)
+
+  -- After an event the household has met it.
+  happened-written : IsWritten (left H d (answer (callFor G d) n)) (met hub-rules G W (d .hub) o)
+  unfolding answer callFor met
   happened-written =
+      let sent = ap (λ (l : List ℕ). joining l (H .sent)) (took (written (n .message)) (d .output)) in
       record {
         states =
-            put-cases (λ g y. y ≡ image (put (G .states) (d .hub) (n .state) g)) (H .states) (d .hub) (answer (callFor N H d) n .state)
-            (left-image ∙ ap image (sym (put-same (G .states) (d .hub) (n .state))))
-            (λ g ne. is .states g ∙ ap image (sym (put-other (G .states) (d .hub) (n .state) g ne)));
-        sent =
-            ap (λ (l : List ℕ). joining l (H .sent)) (took (written (n .message)) (d .output)) ∙ joined (n .message);
-        asked = b .asks (H .asked) ∙ ap (askedFor o) (is .asked);
+            put-cases (λ g y. y ≡ image (put (W .states) (d .hub) (n .state) g)) (H .stored) (d .hub) _
+            (stored-image ∙ ap image (sym (put-same (W .states) (d .hub) (n .state))))
+            (λ g ne. is .states g ∙ ap image (sym (put-other (W .states) (d .hub) (n .state) g ne)));
+        texts = λ t i. texts-more H W is (n .message) legal t (subst (λ (l : List (List ℕ)). t ∈ l) sent i);
+        messages =
+            λ m i.
+            let (t, among, r) = messages-more H W is (n .message) legal m i in
+            (t, subst (λ (l : List (List ℕ)). t ∈ l) (sym sent) among, r);
+        orders =
+            ap (λ (c : Option Command). cond (eqb (n .outcome) done) (adding c (H .orders)) (H .orders)) (b .asks)
+            ∙ ap (λ (l : List Command). cond (eqb (n .outcome) done) (adding (commandOf o) l) l) (is .orders);
       }
 
--- ---- an honest deed
+-- ---- a deed that may happen
 
--- A later hall for which a home stands.
-pub record Going (N : ℕ) (H : Home) (J : Hall Command) : Type 0 where
-  pub hall : Hall Command
-  pub acts : Acts N J hall
-  pub stands : StandsFor N H hall
-
-module _ (N : ℕ) (H : Home) (J : Hall Command) (d : Deed) (ok : StandsFor N H J) (honest : Honest H d) where
-  abbrev G : Group
-  G = ok .group
-
+module _ (G : Group) (group : isGroup G ≡ true) (H : Home) (W : Household hub-rules) (J : Hall Command) (d : Deed) (is : IsWritten H W)
+    (ok : Stands G W J) (fair : Fair hub-engine H d) where
   -- What is received is a message that was written.
-  was-written : (m : Message) → (eventOf (d .event) ≡ some receive-event) × (read (d .input) ≡ some m) → m ∈ G .sent
-  was-written m (e, r) =
-      let (w, among, is) = texts-in (G .sent) (subst (λ (l : List (List ℕ)). d .input ∈ l) (ok .is .sent) (honest e)) in
-      let back : read (d .input) ≡ some w = ap read is ∙ read-text w (ok .stands .well w among) in
+  heard : (o : Occasion) → Brings (callFor G d) o → Heard hub-rules (W .sent) o
+  unfolding callFor
+  heard o b m q =
+      let (t, r) = b .reads m q in
+      let (w, back, among) = is .texts (d .input) (fair .honest (d .input) t) in
       let same : w ≡ m = cc in
       rw (sym same) among
 
-  honest-written : (o : Occasion) → Brings (callFor N H d) o → Written G o
+  -- What the call sees is what the hub stored.
+  pub sight : Sees (callFor G d) (W .states (d .hub))
   unfolding callFor
-  honest-written to-start b = tt
-  honest-written (to-propose bytes) b = tt
-  honest-written (to-send peer prev) b = tt
-  honest-written to-restart b = tt
-  honest-written (to-receive m) b = was-written m (b .reads m refl)
+  sight =
+      ⊎-elim
+      (λ same. seen-image (callFor G d) (W .states (d .hub)) (ok .among .legal (d .hub)) (same ∙ is .states (d .hub)))
+      (λ (lost, kept).
+      seen-kept (callFor G d) (W .states (d .hub)) (ok .among .legal (d .hub)) lost
+      (subst (λ (l : List ℕ). hub-engine .SameKept (d .state) l) (is .states (d .hub)) kept))
+      (fair .stored)
 
-  refused : (k : ℕ) → Going N (left H d (refusal (callFor N H d) k)) J
-  refused k =
-      let x = only-asked (ok .stands) (offered (eventOf (d .event)) (d .input)) in
-      record { hall = x .hall; acts = x .acts; stands = record { group = _; is = refused-written N H G d (ok .is) k; stands = x .stands } }
-
-  happened :
-      isSize N ≡ true → isHub N (d .hub) ≡ true → (o : Occasion) → Brings (callFor N H d) o
-      → Going N (left H d (answer (callFor N H d) (happens (hubOf N (d .hub)) (G .states (d .hub)) o))) J
-  happened size own o b =
-      let w = honest-written o b in
-      let x = met-stands N (d .hub) size own (ok .stands) o w in
-      record {
-        hall = x .hall;
-        acts = x .acts;
-        stands = record { group = met N G (d .hub) o; is = happened-written N H G J d (ok .is) (ok .stands) size own o b w; stands = x .stands };
-      }
-
-  -- The home goes on standing for the machine.
-  pub going : Going N (after N H d) J
+  -- After it the household is as it was, or has met an event.
+  pub becomes : Becomes hub-engine hub-rules hub-writing G W (after hub-engine G H d)
   unfolding after callFor
-  going =
-      step-either (callFor N H d) (G .states (d .hub)) (ok .stands .legal (d .hub)) (ok .is .states (d .hub)) (λ a. Going N (left H d a) J) refused
-      happened
+  becomes =
+      step-either (callFor G d) (W .states (d .hub)) sight (λ a. Becomes hub-engine hub-rules hub-writing G W (left H d a))
+      (λ k r. stays (refused-written G H W d is k (refused-not r)))
+      (λ size own o b. meets (d .hub) o own (heard o b) (happened-written G group H W J d is ok own o b (heard o b)))
 
 -- ---- a deed for each event
 
--- Hub h is called for the event with this number, with room for a message.
-abbrev called : ℕ → ℕ → ℕ → ℕ → List ℕ → Deed
-called h event a b input = record { hub = h; event = event; a = a; b = b; input = input; output = replicate text-room 0 }
-
--- The deed for an event.
-abbrev pub deedFor : ℕ → Occasion → Deed
-deedFor h to-start = called h 1 0 0 []
-deedFor h (to-propose bytes) = called h 2 0 0 bytes
-deedFor h (to-send peer prev) = called h 3 peer prev []
-deedFor h to-restart = called h 4 0 0 []
-deedFor h (to-receive m) = called h 5 0 0 (text m)
+-- Hub h is called for the event with this number, with its stored bytes and room for a message.
+abbrev called : Home → ℕ → ℕ → ℕ → ℕ → List ℕ → Deed
+called H h event a b input = record { hub = h; event = event; a = a; b = b; state = H .stored h; input = input; output = replicate text-room 0 }
 
 -- The room is enough.
 room : text-room ≤ length (replicate {A = ℕ} text-room 0)
 room = omega (arith, length-replicate {A = ℕ} text-room 0)
 
-module _ (N : ℕ) (H : Home) (G : Group) (J : Hall Command) (h : ℕ) (is : IsWritten H G) (ok : Stands N G J)
-    (size : isSize N ≡ true) (own : isHub N h ≡ true) where
-  -- The step comes to what happens.
-  answers :
-      (o : Occasion) → Written G o
-      → stepOf (callFor N H (deedFor h o)) ≡ answer (callFor N H (deedFor h o)) (happens (hubOf N h) (G .states h) o)
-  unfolding callFor eventOf acting happens restart receiving
-  answers to-start w = step-acts _ (G .states h) (ok .legal h) (is .states h) start-event refl size own room
-  answers (to-propose bytes) w = step-acts _ (G .states h) (ok .legal h) (is .states h) propose-event refl size own room
-  answers (to-send peer prev) w = step-acts _ (G .states h) (ok .legal h) (is .states h) send-event refl size own room
-  answers to-restart w = step-acts _ (G .states h) (ok .legal h) (is .states h) restart-event refl size own room
-  answers (to-receive m) w =
-      step-acts _ (G .states h) (ok .legal h) (is .states h) receive-event refl size own room
-      ∙ ap (receiving (callFor N H (deedFor h (to-receive m))) (G .states h)) (read-text m (ok .well m w))
+module _ (G : Group) (group : isGroup G ≡ true) (H : Home) (W : Household hub-rules) (J : Hall Command) (is : IsWritten H W) (ok : Stands G W J)
+    (h : ℕ) (own : isHub (G .size) h ≡ true) where
+  -- A deed with the stored bytes sees the state.
+  sees-stored : (d : Deed) → d .state ≡ H .stored (d .hub) → Sees (callFor G d) (W .states (d .hub))
+  unfolding callFor
+  sees-stored d same = seen-image (callFor G d) (W .states (d .hub)) (ok .among .legal (d .hub)) (same ∙ is .states (d .hub))
 
-  -- The deed brings the event.
-  deed-brings : (o : Occasion) → Written G o → Brings (callFor N H (deedFor h o)) o
-  unfolding callFor eventOf
-  deed-brings to-start w = brings _ start-event to-start refl (λ asked. refl) (λ m e. clash (cc))
-  deed-brings (to-propose bytes) w = brings _ propose-event (to-propose bytes) refl (λ asked. refl) (λ m e. clash (cc))
-  deed-brings (to-send peer prev) w = brings _ send-event (to-send peer prev) refl (λ asked. refl) (λ m e. clash (cc))
-  deed-brings to-restart w = brings _ restart-event to-restart refl (λ asked. refl) (λ m e. clash (cc))
-  deed-brings (to-receive m) w =
-      brings _ receive-event (to-receive m) refl (λ asked. refl)
-      (λ n e. let same : m ≡ n = cc in (refl, read-text m (ok .well m w) ∙ ap some same))
-
-  -- And is honest.
-  pub deed-honest : (o : Occasion) → Written G o → Honest H (deedFor h o)
-  unfolding eventOf
-  deed-honest to-start w = λ e. clash (cc)
-  deed-honest (to-propose bytes) w = λ e. clash (cc)
-  deed-honest (to-send peer prev) w = λ e. clash (cc)
-  deed-honest to-restart w = λ e. clash (cc)
-  deed-honest (to-receive m) w = λ e. subst (λ (l : List (List ℕ)). text m ∈ l) (sym (is .sent)) (in-texts w)
-
-  -- After it the home is the group that has met the event.
-  pub deed-written : (o : Occasion) → Written G o → IsWritten (after N H (deedFor h o)) (met N G h o)
+  -- It comes to what happens, so the household has met the event.
+  enacts :
+      (o : Occasion) (d : Deed) → d .hub ≡ h → Brings (callFor G d) o → Heard hub-rules (W .sent) o
+      → stepOf (callFor G d) ≡ answer (callFor G d) (happens (hubOf G (d .hub)) (W .states (d .hub)) o)
+      → IsWritten (after hub-engine G H d) (met hub-rules G W h o)
   unfolding after
-  deed-written o w =
-      subst (λ (a : Answer). IsWritten (left H (deedFor h o) a) (met N G h o)) (sym (answers o w))
-      (happened-at o (deed-brings o w) w)
-    where
-      happened-at :
-          (o : Occasion) → Brings (callFor N H (deedFor h o)) o → Written G o
-          → IsWritten (left H (deedFor h o) (answer (callFor N H (deedFor h o)) (happens (hubOf N h) (G .states h) o))) (met N G h o)
-      happened-at to-start b w = happened-written N H G J (deedFor h to-start) is ok size own to-start b w
-      happened-at (to-propose bytes) b w = happened-written N H G J (deedFor h (to-propose bytes)) is ok size own (to-propose bytes) b w
-      happened-at (to-send peer prev) b w = happened-written N H G J (deedFor h (to-send peer prev)) is ok size own (to-send peer prev) b w
-      happened-at to-restart b w = happened-written N H G J (deedFor h to-restart) is ok size own to-restart b w
-      happened-at (to-receive m) b w = happened-written N H G J (deedFor h (to-receive m)) is ok size own (to-receive m) b w
+  enacts o d same b i e =
+      rw (sym same)
+      (subst (λ (a : Answer). IsWritten (left H d a) (met hub-rules G W (d .hub) o)) (sym e)
+      (happened-written G group H W J d is ok (rw same own) o b i))
+
+  -- The deed of an event.
+  pub enacted : (o : Occasion) → Heard hub-rules (W .sent) o → (d : Deed) × Fair hub-engine H d × IsWritten (after hub-engine G H d) (met hub-rules G W h o)
+  unfolding callFor eventOf textFor isRestart acting happens restart receiving
+  enacted to-start i =
+      let d = called H h 1 0 0 [] in (
+        d,
+        record { honest = λ t q. clash (cc); stored = inl refl },
+        enacts to-start d refl (brings-start (callFor G d) refl) i (step-acts (callFor G d) (W .states h) (sees-stored d refl) start-event refl group own room),
+      )
+  enacted (to-propose bytes) i =
+      let d = called H h 2 0 0 bytes in (
+        d,
+        record { honest = λ t q. clash (cc); stored = inl refl },
+        enacts (to-propose bytes) d refl (brings-propose (callFor G d) refl) i
+            (step-acts (callFor G d) (W .states h) (sees-stored d refl) propose-event refl group own room),
+      )
+  enacted (to-send peer prev) i =
+      let d = called H h 3 peer prev [] in (
+        d,
+        record { honest = λ t q. clash (cc); stored = inl refl },
+        enacts (to-send peer prev) d refl (brings-send (callFor G d) refl) i
+            (step-acts (callFor G d) (W .states h) (sees-stored d refl) send-event refl group own room),
+      )
+  enacted to-restart i =
+      let d = called H h 4 0 0 [] in (
+        d,
+        record { honest = λ t q. clash (cc); stored = inl refl },
+        enacts to-restart d refl (brings-restart (callFor G d) refl) i
+            (step-acts (callFor G d) (W .states h) (sees-stored d refl) restart-event refl group own room),
+      )
+  enacted (to-receive m) i =
+      let (t, among, r) = is .messages m (i m refl) in
+      let d = called H h 5 0 0 t in
+      let heard : textFor (some receive-event) t ≡ some t = rw (r, textFor) refl in (
+        d,
+        record { honest = λ u q. (let same : t ≡ u = cc in rw (sym same) among); stored = inl refl },
+        enacts (to-receive m) d refl (brings-receive (callFor G d) m refl r) i
+            (step-acts (callFor G d) (W .states h) (sees-stored d refl) receive-event refl group own room ∙ ap (receiving (callFor G d) (W .states h)) r),
+      )

@@ -18,11 +18,11 @@ use Rattle.paxos.specs.Paxos.{_∈_}
 use Rattle.views.specs.Hall.{gave, Hall}
 use Rattle.views.specs.Moves.{Move}
 use Rattle.views.proofs.Moves.{reach, answer}
-use Rattle.home.specs.Group.{hubOf}
-use Rattle.home.specs.Seen.{tells, holdsOf, viewOf}
+use Rattle.kinds.specs.Sizes.{Group, hubOf}
+use Rattle.home.specs.View.{machine, tells, holdsOf, viewOf}
 use Rattle.home.specs.Stands.{Logs, Ground, Yields, Rooted}
-use Rattle.home.proofs.AtLaws.{at-drop}
-use Rattle.home.proofs.SeenLaws.{holds-is}
+use Rattle.kinds.proofs.AtLaws.{at-drop}
+use Rattle.home.proofs.ViewLaws.{holds-is}
 use Rattle.home.proofs.Frame.{Goes, goes}
 use Rattle.home.proofs.Start.{is-hub}
 
@@ -32,28 +32,28 @@ yields :
 unfolding holdsOf
 yields h t to last b log given =
     record {
-      report = holdsOf b log;
+      seen = holdsOf b log;
       given = given;
       low = λ p k c e. let x = holds-is b log p k c e in omega (arith, x .ballot);
       beyond = λ i. ap (tells b) (sym (at-drop last log i));
     }
 
-module _ {N : ℕ} {H : Hall Command} {made : Logs} (ok : Ground N H made) {h : ℕ} (w : IsWho (hubOf N h)) {s : State} (f : Rooted N H made h s)
+module _ {G : Group} {H : Hall Command} {made : Logs} (ok : Ground G H made) {h : ℕ} (w : IsWho (hubOf G h)) {s : State} (f : Rooted G H made h s)
     (t : ℕ) (higher : s .kept .term < t) where
   -- The hub raises its term.
-  pub raised-move : Move N H h (viewOf (raised s t .kept))
+  pub raised-move : Move (machine G) H h (viewOf (raised s t .kept))
   unfolding raised withTerm
   raised-move = reach (is-hub w) (f .view) t (omega arith)
 
   -- It answers yes or no.
   pub request-goes :
-      (from last ballot : ℕ) → Goes N H made h (raised s t) (some (says (hubOf N h) (raised s t) from (vote (raised s t .kept) last ballot)))
+      (from last ballot : ℕ) → Goes G H made h (raised s t) (some (says (hubOf G h) (raised s t) from (vote (raised s t .kept) last ballot)))
   unfolding raised withTerm vote says
   request-goes from last ballot =
       cond-either
-      (λ (b : Body). Goes N H made h (raised s t) (some (record { term = t; from = h; to = from; body = b })))
+      (λ (b : Body). Goes G H made h (raised s t) (some (record { term = t; from = h; to = from; body = b })))
       (leb (s .kept .ballot) ballot)
       (λ e.
-      let (x, given) = answer (ok .fits) (is-hub w) (f .view) t from higher in
+      let (x, given) = answer (ok .faithful) (is-hub w) (f .view) t from higher in
       goes ok x (f .prefix) tt (yields h t from last (s .kept .ballot) (s .kept .log) given))
       (λ e. goes ok (reach (is-hub w) (f .view) t (omega arith)) (f .prefix) tt tt)

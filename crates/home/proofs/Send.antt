@@ -8,7 +8,7 @@ use mathlib.Core.Option.{some}
 use borrow.Author.Tests.{not-false, ltb-false}
 use lib.Dec.{eqb, ltb}
 use lib.ListN.{length, drop, getElem?}
-use Rattle.kinds.specs.Sizes.{isHub}
+use Rattle.kinds.specs.Sizes.{isHub, Group, hubOf}
 use Rattle.command.specs.Command.{Command}
 use Rattle.command.specs.Entry.{Entry}
 use Rattle.state.specs.State.{Kept, Lost, follower, candidate, leader, State}
@@ -19,12 +19,11 @@ use Rattle.rules.proofs.LegalLaws.{IsKept}
 use Rattle.paxos.specs.Paxos.{at}
 use Rattle.paxos.proofs.Member.{clash}
 use Rattle.views.specs.Hall.{View, Hall}
-use Rattle.views.specs.Fits.{Settled, Known, Fits}
-use Rattle.home.specs.Group.{hubOf}
-use Rattle.home.specs.Seen.{holdsOf, viewOf}
+use Rattle.views.specs.Faithful.{Settled, Known, Faithful}
+use Rattle.home.specs.View.{machine, holdsOf, viewOf}
 use Rattle.home.specs.Stands.{Logs, Ground, Follows, Carries, Rooted}
-use Rattle.home.proofs.AtLaws.{at-in, at-drop}
-use Rattle.home.proofs.SeenLaws.{holds-entry, lt-said}
+use Rattle.kinds.proofs.AtLaws.{at-in, at-drop}
+use Rattle.home.proofs.ViewLaws.{holds-entry, lt-said}
 use Rattle.home.proofs.Frame.{Goes, stays}
 
 -- The term of an entry.
@@ -36,11 +35,11 @@ termAt-entry (x ∷ log) (suc i) e h = termAt-entry log i e h
 
 -- What a hub reports is settled.
 chosen-settled :
-    {N : ℕ} {H : Hall Command} → Fits N H → (h : ℕ) (k : Kept) → H .view h ≡ viewOf k
-    → (i : ℕ) (e : Entry) → i < k .chosen → getElem? (k .log) i ≡ some e → Settled N (H .past) (k .term) (suc i) (e .command)
-chosen-settled {N} {H} ok h k v i e lt q =
-    let said : viewOf k .says (suc i) ≡ true → Known N (H .past) (k .term) (suc i) (holdsOf (k .ballot) (k .log) (suc i)) =
-    subst (λ (u : View Command). u .says (suc i) ≡ true → Known N (H .past) (u .term) (suc i) (u .holds (suc i))) v ((ok .hubs h) .said (suc i)) in
+    {G : Group} {H : Hall Command} → Faithful (machine G) H → (h : ℕ) (k : Kept) → H .view h ≡ viewOf k
+    → (i : ℕ) (e : Entry) → i < k .chosen → getElem? (k .log) i ≡ some e → Settled (machine G) (H .past) (k .term) (suc i) (e .command)
+chosen-settled {G} {H} ok h k v i e lt q =
+    let said : viewOf k .says (suc i) ≡ true → Known (machine G) (H .past) (k .term) (suc i) (holdsOf (k .ballot) (k .log) (suc i)) =
+    subst (λ (u : View Command). u .says (suc i) ≡ true → Known (machine G) (H .past) (u .term) (suc i) (u .holds (suc i))) v ((ok .hubs h) .said (suc i)) in
     let x = said (lt-said (k .chosen) i lt) in
     let is = x .is in
     let held = holds-entry (k .ballot) (k .log) i e q in
@@ -48,31 +47,34 @@ chosen-settled {N} {H} ok h k v i e lt q =
     rw same at (x .settled)
 
 -- What stands before a part of the log.
-follows-log : (log : List Entry) (prev : ℕ) → prev ≤ length log → Follows log prev (termAt log prev)
+pub follows-log : (log : List Entry) (prev : ℕ) → prev ≤ length log → Follows log prev (termAt log prev)
 follows-log log zero le = tt
 follows-log log (suc i) le = let (e, q) = at-in log i (omega arith) in (e, q, sym (termAt-entry log i e q))
 
-module _ {N : ℕ} {H : Hall Command} {made : Logs} (ok : Ground N H made) {h : ℕ} where
+module _ {G : Group} {H : Hall Command} {made : Logs} (ok : Ground G H made) {h : ℕ} where
   -- The append that a leader sends.
   carries :
-      (k : Kept) (confirmed : List ℕ) (prev : ℕ) → Rooted N H made h (record { kept = k; lost = leader confirmed }) → IsKept k
+      (k : Kept) (confirmed : List ℕ) (prev : ℕ) → Rooted G H made h (record { kept = k; lost = leader confirmed }) → IsKept k
       → prev ≤ length (k .log)
-      → Carries N H made (k .term) prev (termAt (k .log) prev) (k .chosen) (drop prev (k .log))
+      → Carries G H made (k .term) h prev (termAt (k .log) prev) (k .chosen) (drop prev (k .log))
   carries k confirmed prev f legal le =
       let r = f .role in
       record {
+        backers = r .backers;
+        seen = r .seen;
+        leads = r .leads;
         after = subst (λ (m : List Entry). Follows m prev (termAt (k .log) prev)) (r .whole) (follows-log (k .log) prev le);
         part = λ i e q. subst (λ (m : List Entry). getElem? m (prev + i) ≡ some e) (r .whole) (sym (at-drop prev (k .log) i) ∙ q);
         settled =
             λ i lt.
             let (e, q) = at-in (k .log) i (omega (arith, legal .chosen)) in
-            (e, subst (λ (m : List Entry). getElem? m i ≡ some e) (r .whole) q, chosen-settled (ok .fits) h k (f .view) i e lt q);
+            (e, subst (λ (m : List Entry). getElem? m i ≡ some e) (r .whole) q, chosen-settled (ok .faithful) h k (f .view) i e lt q);
       }
 
   sends-goes :
-      (k : Kept) (l : Lost) (peer prev : ℕ) → Rooted N H made h (record { kept = k; lost = l }) → IsKept k → prev ≤ length (k .log)
+      (k : Kept) (l : Lost) (peer prev : ℕ) → Rooted G H made h (record { kept = k; lost = l }) → IsKept k → prev ≤ length (k .log)
       → isLeader (record { kept = k; lost = l }) ≡ true
-      → Goes N H made h (record { kept = k; lost = l }) (some (sends (hubOf N h) (record { kept = k; lost = l }) peer prev))
+      → Goes G H made h (record { kept = k; lost = l }) (some (sends (hubOf G h) (record { kept = k; lost = l }) peer prev))
   unfolding isLeader sends says
   sends-goes k follower peer prev f legal le e = clash (cc)
   sends-goes k (candidate voters gathered) peer prev f legal le e = clash (cc)
@@ -80,12 +82,12 @@ module _ {N : ℕ} {H : Hall Command} {made : Logs} (ok : Ground N H made) {h : 
 
   -- Any send, at any hub.
   pub send-goes :
-      {s : State} → Rooted N H made h s → IsKept (s .kept) → (peer prev : ℕ)
-      → Goes N H made h (send (hubOf N h) s peer prev .state) (send (hubOf N h) s peer prev .message)
+      {s : State} → Rooted G H made h s → IsKept (s .kept) → (peer prev : ℕ)
+      → Goes G H made h (send (hubOf G h) s peer prev .state) (send (hubOf G h) s peer prev .message)
   unfolding send
   send-goes {s} f legal peer prev =
-      let P : Next → Type 0 = λ n. Goes N H made h (n .state) (n .message) in
-      let outside = not (isHub N peer) in
+      let P : Next → Type 0 = λ n. Goes G H made h (n .state) (n .message) in
+      let outside = not (isHub (G .size) peer) in
       let beyond = ltb (len s) prev in
       cond-either P (not (isLeader s)) (λ e. stays ok f tt)
       (λ e.

@@ -7,7 +7,7 @@ use mathlib.Core.List.{List, [], _∷_, _++_, map}
 use mathlib.Core.Option.{some}
 use lib.Dec.{eqb}
 use lib.ListN.{getElem?, replicate}
-use Rattle.kinds.specs.Sizes.{hubs-most, term-most}
+use Rattle.kinds.specs.Sizes.{hubs-most, term-most, Group, hubOf}
 use Rattle.command.specs.Command.{Command}
 use Rattle.command.specs.Entry.{Entry}
 use Rattle.state.specs.State.{Kept, State}
@@ -23,14 +23,14 @@ use Rattle.views.specs.Hall.{gave, Hall}
 use Rattle.views.specs.Best.{Top}
 use Rattle.views.proofs.Moves.{answer}
 use Rattle.views.proofs.BestLaws.{top-one}
-use Rattle.home.specs.Group.{hubOf}
-use Rattle.home.specs.Seen.{tells, holdsOf, counts, tally, ofHub}
+use Rattle.home.specs.View.{tells, holdsOf, counts, tally}
+use Rattle.kinds.specs.Hubs.{ofHub}
 use Rattle.home.specs.Stands.{Logs, Ground, Standing, Rooted}
-use Rattle.home.proofs.SeenLaws.{setHub-cases, setHub-put, ofHub-replicate}
+use Rattle.engine.proofs.HubsLaws.{setHub-cases, setHub-put, ofHub-replicate}
 use Rattle.home.proofs.Frame.{Goes, goes, stays}
 
 -- The hub that is called is one of the machine's.
-pub is-hub : {N h : ℕ} → IsWho (hubOf N h) → IsHub N h
+pub is-hub : {G : Group} {h : ℕ} → IsWho (hubOf G h) → IsHub (G .size) h
 is-hub w = record { low = w .first; high = w .last }
 
 -- What a candidate would propose before it has gathered anything: what it holds.
@@ -62,17 +62,17 @@ alone {H} h k low le given =
           (top-one h (λ g. holdsOf (k .ballot) (k .log) (suc i)) _ (tally-alone (k .ballot) (k .log) i));
     }
 
-module _ {N : ℕ} {H : Hall Command} {made : Logs} (ok : Ground N H made) {h : ℕ} (w : IsWho (hubOf N h)) {s : State} (f : Rooted N H made h s) where
-  started-goes : Goes N H made h (started (hubOf N h) s) (some (asks (hubOf N h) (started (hubOf N h) s)))
+module _ {G : Group} {H : Hall Command} {made : Logs} (ok : Ground G H made) {h : ℕ} (w : IsWho (hubOf G h)) {s : State} (f : Rooted G H made h s) where
+  started-goes : Goes G H made h (started (hubOf G h) s) (some (asks (hubOf G h) (started (hubOf G h) s)))
   unfolding started withTerm asks says
   started-goes =
-      let (x, given) = answer (ok .fits) (is-hub w) (f .view) (s .kept .term + 1) h (omega arith) in
+      let (x, given) = answer (ok .faithful) (is-hub w) (f .view) (s .kept .term + 1) h (omega arith) in
       goes ok x (f .prefix) (alone h (withTerm (s .kept) (s .kept .term + 1)) (w .first) (omega (arith, w .last, w .most)) given) tt
 
   -- Any start, at any hub.
-  pub start-goes : Goes N H made h (start (hubOf N h) s .state) (start (hubOf N h) s .message)
+  pub start-goes : Goes G H made h (start (hubOf G h) s .state) (start (hubOf G h) s .message)
   unfolding start
   start-goes =
-      let P : Next → Type 0 = λ n. Goes N H made h (n .state) (n .message) in
+      let P : Next → Type 0 = λ n. Goes G H made h (n .state) (n .message) in
       cond-either P (isLeader s) (λ e. stays ok f tt)
       (λ e. cond-either P (eqb (s .kept .term) term-most) (λ e. stays ok f tt) (λ e. started-goes))

@@ -1,123 +1,167 @@
--- Demand 3, proved of every home that started fresh, over the very definition of the step that the exported function's promise cites. Each
--- deed stands for zero or more steps of MultiPaxos (`deed-stands`, from `fresh-stands-for`), a history that the machine can come to
--- (`history-is-run`), in which a hub's promise and votes are what its bytes say (`hub-is-mapped`), and what a hub reports is chosen
--- (`report-is-chosen`). So no two hubs ever report different commands at one place (`agreement`), a report stays (`stability`) and was
--- proposed to some hub (`validity`); every stored state is legal (`legal-states`) and every written text is read (`legal-messages`).
--- Assumes nothing.
+-- Demand 3, proved of the hubs, over the very definition of the step that the exported function's promise cites: all that `engine`
+-- claims of an engine (`demand-3`; its parts `simulation`, `explained`, `agreement`, `stability`, `validity`); every reported command a
+-- hub took from a client (`somebody-proposed`); what C is handed is what the theorem speaks of (`handed-is-reported`,
+-- `counted-is-reported`, passed on here) and agrees (`handed-agree`); and an honest hub is never told 2, 4 or 7
+-- (`legal-states`, `never-bad-state`, `legal-messages`, `never-contradicted`). Assumes nothing.
 use Prim.Native.Nat.{ℕ}
-use mathlib.Core.Path.{_≡_, refl, sym, _∙_, ap, subst}
+use native.Mathlib.Omega.{arith}
+use mathlib.Core.Path.{_≡_, refl, sym, _∙_, ap}
+use mathlib.Core.Logic.{⊎-elim}
 use mathlib.Core.Bool.{true}
-use mathlib.Core.List.{List}
-use Rattle.kinds.specs.Sizes.{isSize}
-use Rattle.command.specs.Command.{Command}
-use Rattle.message.specs.Text.{read}
-use Rattle.message.proofs.ReadLaws.{read-text}
-use Rattle.state.specs.Image.{readState}
-use Rattle.state.proofs.ImageLaws.{readState-image}
-use Rattle.paxos.specs.Paxos.{_∈_, Highest}
-use Rattle.views.specs.Hall.{View, Hall, first}
-use Rattle.views.specs.Acts.{Acts}
-use Rattle.views.proofs.Theorems.{acts-trans, acts-steps, reports-chosen, reports-agree, reports-stay, reports-valid}
-use Rattle.home.specs.Home.{Home, fresh-home, after, Runs, Reached}
-use Rattle.home.specs.Safe.{Agreement, Stability, Validity, LegalStates, LegalMessages}
-use Rattle.home.specs.Group.{Group, hubOf, Meetings, none-yet, meeting}
-use Rattle.home.specs.Seen.{viewOf}
-use Rattle.home.specs.Machine.{IsWritten, StandsFor, FreshStands, HistoryIsRun, DeedStands, HubIsMapped, ReportIsChosen}
-use Rattle.home.proofs.Values.{fresh-stands, meetings-stand}
-use Rattle.home.proofs.Deeds.{texts-in, Going, going, deedFor, deed-honest, deed-written}
-use Rattle.home.proofs.Reports.{kept, stored, view, seen-report, told-report}
+use mathlib.Core.List.{List, _++_}
+use mathlib.Core.Option.{Option, none, some}
+use lib.ListN.{take, drop}
+use lib.Seq.{take-append-seam}
+use Rattle.kinds.specs.Sizes.{Group, isGroup, hubOf}
+use Rattle.command.specs.Command.{Command, command-size, commandBytes}
+use Rattle.command.proofs.CommandLaws.{commandBytes-length}
+use Rattle.state.specs.State.{Kept, State}
+use Rattle.state.specs.Legal.{legalState}
+use Rattle.state.specs.Image.{image, readState}
+use Rattle.state.proofs.ImageLaws.{readState-image, readKept-image}
+use Rattle.rules.specs.Outcome.{bad-state, bad-message, contradicting}
+use Rattle.rules.specs.Step.{refusal, answer}
+use Rattle.rules.specs.Happens.{Occasion, to-receive, happens}
+use Rattle.paxos.proofs.Member.{clash, nothing}
+use Rattle.views.specs.Hall.{blank}
+use Rattle.engine.specs.Home.{Reached}
+use Rattle.engine.specs.Safe.{Simulation, Explained, Agreement, Stability, Validity}
+use Rattle.engine.specs.Upholds.{Upholds}
+use Rattle.engine.specs.Written.{Writes}
+use Rattle.engine.proofs.Upholds.{Over, upholds}
+use Rattle.engine.proofs.Theorems as engine
+use Rattle.home.specs.View.{viewOf, viewIn}
+use Rattle.home.specs.Hub.{callFor, hub-engine, Home, hub-rules, hub-writing}
+use Rattle.home.specs.Facts.{hub-facts}
+use Rattle.home.specs.Safe.{Demand3, SomebodyProposed, HandedAgree, LegalStates, NeverBadState, LegalMessages, NeverContradicted}
+use Rattle.home.proofs.Bytes.{Refused, unknown, short, unread, step-either, step-receives}
+use Rattle.home.proofs.Events.{hub-kept}
+use Rattle.home.proofs.Deeds.{sight, becomes}
+use Rattle.home.proofs.Honest.{never-contradicting, happens-beyond}
+pub use Rattle.home.proofs.Reports.{handed-is-reported, counted-is-reported}
+use Rattle.home.proofs.Reports.{bytes-say}
 
--- ---- runs
+-- ---- the hub is an engine that upholds the machine
 
--- A fresh home stands for the machine at its start.
-pub fresh-stands-for : FreshStands
-unfolding fresh-home
-fresh-stands-for N =
-    record { group = _; is = record { states = λ h. refl; sent = refl; asked = refl }; stands = fresh-stands N }
+-- The view of a legal state's image is that of its kept parts.
+image-view : (G : Group) (h : ℕ) (s : State) → legalState (hubOf G h) s ≡ true → viewOf (s .kept) ≡ viewIn (image s)
+unfolding viewIn
+image-view G h s legal = sym (ap (λ (x : Option Kept). elim x [ none ↦ blank | some k ↦ viewOf k ]) (readKept-image (hubOf G h) s legal))
 
--- The history that a home stands for is one that the machine can come to.
-pub history-is-run : HistoryIsRun
-history-is-run N H J ok = ok .stands .ground .fits .run
+module _ (G : Group) (group : isGroup G ≡ true) where
+  pub hub-writes : Writes hub-engine hub-rules hub-writing G (hub-facts G)
+  hub-writes =
+      record {
+        fresh = record { states = λ h. refl; texts = λ t i. nothing i; messages = λ m i. nothing i; orders = refl };
+        deed = becomes G group;
+        views = λ W J ok h. ok .hubs h .view ∙ image-view G h (W .states h) (ok .among .legal h);
+        says = bytes-say;
+      }
 
--- Behind each deed the machine takes zero or more steps.
-pub deed-stands : DeedStands
-deed-stands N H J d ok honest = let x = going N H J d ok honest in (x .hall, acts-steps (ok .stands .ground .fits) (x .acts), x .stands)
+  abbrev pub hub-upholds : Upholds hub-engine G
+  hub-upholds = upholds (hub-kept G group) hub-writes
 
--- Over any run the home stands for a later hall.
-runs : {N : ℕ} {H I : Home} {J : Hall Command} → StandsFor N H J → Runs N H I → Going N I J
-runs {J} ok Runs.done = record { hall = J; acts = Acts.done; stands = ok }
-runs ok (Runs.next r d honest) =
-    let x = runs ok r in
-    let y = going _ _ (x .hall) d (x .stands) honest in
-    record { hall = y .hall; acts = acts-trans (x .acts) (y .acts); stands = y .stands }
+  -- ---- demand 3
 
--- A home that started fresh stands for a machine.
-reached : {N : ℕ} {H : Home} → Reached N H → Going N H first
-reached {N} r = runs (fresh-stands-for N) (r .runs)
+  -- The machine runs along with the home.
+  pub simulation : Simulation hub-engine G
+  simulation = engine.simulation hub-upholds
 
--- Whatever can happen in a group of states and messages can happen in a home of bytes and texts.
-pub meetings-run : {N : ℕ} {G : Group} → isSize N ≡ true → Meetings N G → (H : Home) × Runs N fresh-home H × IsWritten H G
-unfolding fresh-home
-meetings-run size none-yet = (fresh-home, Runs.done, record { states = λ h. refl; sent = refl; asked = refl })
-meetings-run {N} size (meeting {G} r h hub o w) =
-    let (H, before, is) = meetings-run size r in
-    let x = meetings-stand size r in (
-      after N H (deedFor h o),
-      Runs.next before (deedFor h o) (deed-honest N H G (x .hall) h is (x .stands) size hub o w),
-      deed-written N H G (x .hall) h is (x .stands) size hub o w,
-    )
+  -- Every home that started fresh is explained by a history of the machine.
+  pub explained : Explained hub-engine G
+  explained = engine.explained hub-upholds
 
--- ---- what is mapped
+  -- No two hubs, at any two moments, report different commands at one place.
+  pub agreement : Agreement hub-engine G
+  agreement = engine.agreement hub-upholds
 
--- The machine knows a hub by its bytes.
-pub hub-is-mapped : HubIsMapped
-hub-is-mapped N H J h k ok read-as =
-    let mine = stored ok h in
-    let same : kept ok h ≡ k = cc in
-    let of-view : J .view h ≡ viewOf k = view ok h ∙ ap viewOf same in
-    let x = ok .stands .ground .fits .hubs h in
+  -- What a hub reports it reports ever after.
+  pub stability : Stability hub-engine G
+  stability = engine.stability hub-upholds
+
+  -- What is reported a hub took from a client, or it is the machine's own.
+  pub validity : Validity hub-engine G
+  validity = engine.validity hub-upholds
+
+-- All of it.
+pub demand-3 : Demand3
+demand-3 G group =
     record {
-      promised = x .promised ∙ ap (λ v. v .term) of-view;
-      counted = λ p. subst (λ (v : View Command). Highest (J .past) h p (v .holds p)) of-view (x .held p);
+      simulation = simulation G group;
+      explained = explained G group;
+      agreement = agreement G group;
+      stability = stability G group;
+      validity = validity G group;
     }
 
--- What a hub reports is chosen.
-pub report-is-chosen : ReportIsChosen
-report-is-chosen N H J h p c ok r = reports-chosen (ok .stands .ground .fits) (seen-report ok h r)
+-- The machine has no command of its own: a hub took every reported one from a client.
+pub somebody-proposed : SomebodyProposed
+somebody-proposed G H h p c r a = ⊎-elim (λ m. m) (λ own. clash (cc)) (validity G (r .group) H h p c r a)
 
--- ---- safety
+-- ---- what C is told
 
--- No two hubs, at any two moments, report different commands at one place.
-pub agreement : Agreement
-agreement N H I g h p c d r more a b =
-    let x = reached r in
-    let y = runs (x .stands) more in
-    reports-agree (x .stands .stands .ground .fits) (y .acts) (seen-report (x .stands) g a) (seen-report (y .stands) h b)
+-- The first 16 bytes of what is handed over are the command's.
+handed-bytes : (c : Command) (out : List ℕ) → take command-size (commandBytes c ++ drop command-size out) ≡ commandBytes c
+handed-bytes c out =
+    ap (λ (n : ℕ). take n (commandBytes c ++ drop command-size out)) (sym (commandBytes-length c)) ∙ take-append-seam (commandBytes c) (drop command-size out)
 
--- What a hub reports it reports ever after.
-pub stability : Stability
-stability N H I h p c r more a =
-    let x = reached r in
-    let y = runs (x .stands) more in
-    told-report (y .stands) h (reports-stay (x .stands .stands .ground .fits) (y .acts) (seen-report (x .stands) h a))
+-- What is handed over for a place is the same everywhere.
+pub handed-agree : HandedAgree
+handed-agree G H I g h p out more r runs a b =
+    let (c, x) = handed-is-reported (H .stored g) p out .0 a in
+    let (d, y) = handed-is-reported (I .stored h) p more .0 b in
+    let same = agreement G (r .group) H I g h p c d r runs (x .reports) (y .reports) in
+    ap (take command-size) (x .bytes) ∙ handed-bytes c out ∙ ap commandBytes same ∙ sym (ap (take command-size) (y .bytes) ∙ handed-bytes d more)
 
--- What is reported was proposed.
-pub validity : Validity
-validity N H h p c r a =
-    let x = reached r in
-    let ok = x .stands in
-    subst (λ (l : List Command). c ∈ l) (sym (ok .is .asked)) (ok .stands .asks c (reports-valid (ok .stands .ground .fits) (seen-report ok h a)))
+-- ---- what an honest hub is never told
+
+-- What stands over a home that started fresh.
+standing : (G : Group) (H : Home) (r : Reached hub-engine G H) → Over hub-engine hub-rules hub-writing G (hub-facts G) H (engine.reached (hub-upholds G (r .group)) H r .hall)
+standing G H r = engine.reached (hub-upholds G (r .group)) H r .over
 
 -- Every stored state is legal.
 pub legal-states : LegalStates
-legal-states N H h r hub =
-    let ok = (reached r) .stands in
-    let s = ok .group .states h in
-    (s, ap (readState (hubOf N h)) (ok .is .states h) ∙ readState-image (hubOf N h) s (ok .stands .legal h))
+legal-states G H h r =
+    let o = standing G H r in
+    let s = o .household .states h in
+    (s, ap (readState (hubOf G h)) (o .is .states h) ∙ readState-image (hubOf G h) s (o .stands .among .legal h))
 
 -- Every written text is read.
 pub legal-messages : LegalMessages
-legal-messages N H t r i =
-    let ok = (reached r) .stands in
-    let (m, among, is) = texts-in (ok .group .sent) (subst (λ (l : List (List ℕ)). t ∈ l) (ok .is .sent) i) in
-    (m, ap read is ∙ read-text m (ok .stands .well m among))
+legal-messages G H t r i = let (m, back, among) = standing G H r .is .texts t i in (m, back)
+
+-- No hub ever answers 2.
+pub never-bad-state : NeverBadState
+unfolding callFor refusal answer
+never-bad-state G H d r fair =
+    let o = standing G H r in
+    step-either (callFor G d) (o .household .states (d .hub)) (sight G (r .group) H (o .household) _ d (o .is) (o .stands) fair)
+    (λ a. a .outcome ≡ bad-state → ⊥) refused
+    (λ size own e b. happened (o .household .states (d .hub)) e)
+  where
+    refused : (k : ℕ) → Refused (callFor G d) k → refusal (callFor G d) k .outcome ≡ bad-state → ⊥
+    refused k unknown q = clash (cc)
+    refused k short q = clash (cc)
+    refused k (unread u) q = clash (cc)
+
+    happened : (s : State) (e : Occasion) → answer (callFor G d) (happens (callFor G d .who) s e) .outcome ≡ bad-state → ⊥
+    happened s e q = ⊎-elim (λ z. clash (cc)) (λ z. absurd (omega arith)) (happens-beyond (callFor G d .who) s e)
+
+-- No honest message is answered with 4 or 7.
+pub never-contradicted : NeverContradicted
+unfolding callFor refusal answer happens
+never-contradicted G H d r fair event i =
+    let o = standing G H r in
+    let s = o .household .states (d .hub) in
+    let ok = o .stands in
+    let (m, back, among) = o .is .texts (d .input) i in
+    let sees = sight G (r .group) H (o .household) _ d (o .is) ok fair in
+    let received = step-receives (callFor G d) s m sees event back in
+    record {
+      reads =
+          received (λ a. a .outcome ≡ bad-message → ⊥) (λ q. clash (cc)) (λ q. clash (cc))
+          (λ q. ⊎-elim (λ z. clash (cc)) (λ z. absurd (omega arith)) (happens-beyond (hubOf G (d .hub)) s (to-receive m)));
+      agrees =
+          received (λ a. a .outcome ≡ contradicting → ⊥) (λ q. clash (cc)) (λ q. clash (cc))
+          (never-contradicting (ok .ground) (o .household .states) (ok .hubs (d .hub)) m (ok .sent m among) (ok .among .well m among) (ok .among .echoes m among));
+    }

@@ -1,6 +1,5 @@
-pub mod Home
-pub mod Safe
-pub mod Group
-pub mod Seen
+pub mod View
 pub mod Stands
-pub mod Machine
+pub mod Hub
+pub mod Facts
+pub mod Safe

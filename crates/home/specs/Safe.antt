@@ -1,47 +1,80 @@
--- Demand 3: what is claimed of every home that started fresh. Assumes nothing.
-use Prim.Native.Nat.{ℕ, suc}
-use mathlib.Core.Bool.{true}
-use mathlib.Core.List.{List}
-use mathlib.Core.Option.{some}
+-- Demand 3 of these hubs, beside what `engine` claims of any engine (`Safety`): what C is told, and what an honest hub is never told.
+-- Assumes nothing.
+use Prim.Native.Nat.{ℕ, _*_, _≤_}
 use mathlib.Core.Path.{_≡_}
-use lib.ListN.{getElem?}
-use Rattle.kinds.specs.Sizes.{isHub}
-use Rattle.command.specs.Command.{Command}
+use mathlib.Core.Logic.{_↔_}
+use mathlib.Core.Bool.{true}
+use mathlib.Core.List.{List, _++_}
+use mathlib.Core.Option.{some}
+use lib.ListN.{length, take, drop}
+use Rattle.kinds.specs.Sizes.{Group, isGroup, hubOf}
+use Rattle.command.specs.Command.{Command, command-size, commandBytes}
 use Rattle.message.specs.Message.{Message}
 use Rattle.message.specs.Text.{read}
-use Rattle.state.specs.State.{Kept, State, reported}
-use Rattle.state.specs.Image.{readState, readKept}
+use Rattle.state.specs.State.{State}
+use Rattle.state.specs.Image.{readState, reportedIn}
+use Rattle.rules.specs.Outcome.{done, bad-state, bad-message, contradicting}
+use Rattle.rules.specs.Report.{reportOf, chosenOf}
+use Rattle.rules.specs.Step.{receive-event, eventOf, stepOf}
 use Rattle.paxos.specs.Paxos.{_∈_}
-use Rattle.home.specs.Home.{Home, Runs, Reached}
+use Rattle.engine.specs.Home.{Fair, Runs, Reached}
+use Rattle.engine.specs.Safe.{Reports, Safety}
+use Rattle.home.specs.Hub.{Deed, callFor, hub-engine, Home}
 
--- Hub h reports the command c at the place p (from 1): its stored bytes say so.
-pub record Reports (H : Home) (h p : ℕ) (c : Command) : Type 0 where
-  pub kept : Kept
-  pub stored : readKept (H .states h) ≡ some kept
-  pub index : ℕ
-  pub place : p ≡ suc index
-  pub reports : getElem? (reported kept) index ≡ some c
+-- All of demand 3, for 3, 5 and 7 hubs at once.
+abbrev pub Demand3 : Type 1
+Demand3 = (G : Group) → isGroup G ≡ true → Safety hub-engine G
 
--- No two hubs, at any two moments of a run, report different commands at one place.
-abbrev pub Agreement : Type 0
-Agreement =
-    (N : ℕ) (H I : Home) (g h p : ℕ) (c d : Command)
-    → Reached N H → Runs N H I → Reports H g p c → Reports I h p d → c ≡ d
+-- A hub of the group took every reported command from a client, with outcome 0.
+abbrev pub SomebodyProposed : Type 0
+SomebodyProposed = (G : Group) (H : Home) (h p : ℕ) (c : Command) → Reached hub-engine G H → Reports hub-engine H h p c → c ∈ H .orders
 
--- A command once reported at a place is reported there by that hub ever after, restarts included.
-abbrev pub Stability : Type 0
-Stability = (N : ℕ) (H I : Home) (h p : ℕ) (c : Command) → Reached N H → Runs N H I → Reports H h p c → Reports I h p c
+-- ---- what C is told
 
--- Every reported command was proposed to some hub in that run.
-abbrev pub Validity : Type 0
-Validity = (N : ℕ) (H : Home) (h p : ℕ) (c : Command) → Reached N H → Reports H h p c → c ∈ H .asked
+-- What kritnamon_reported hands over is what the hub of these bytes reports; and it hands over all of that where there is room.
+pub record Hands (l : List ℕ) (p : ℕ) (out : List ℕ) (c : Command) : Type 0 where
+  pub reports : reportedIn l p ≡ some c
+  pub room : command-size ≤ length out
+  pub bytes : reportOf l p out .output ≡ commandBytes c ++ drop command-size out
 
--- Every state that occurs is legal: no honest hub ever answers 2.
+abbrev pub HandedIsReported : Type 0
+HandedIsReported =
+    (l : List ℕ) (p : ℕ) (out : List ℕ) → (reportOf l p out .outcome ≡ done) ↔ ((c : Command) × Hands l p out c)
+
+-- kritnamon_chosen counts exactly the places at which something is reported.
+abbrev pub CountedIsReported : Type 0
+CountedIsReported =
+    (l : List ℕ) (n p : ℕ) → chosenOf l ≡ n * 4_294_967_296 → ((1 ≤ p) × (p ≤ n)) ↔ ((c : Command) × (reportedIn l p ≡ some c))
+
+-- Whatever kritnamon_reported hands over for a place, at any two hubs and any two moments of a run, is the same 16 bytes.
+abbrev pub HandedAgree : Type 0
+HandedAgree =
+    (G : Group) (H I : Home) (g h p : ℕ) (out more : List ℕ) → Reached hub-engine G H → Runs hub-engine G H I
+    → reportOf (H .stored g) p out .outcome ≡ done
+    → reportOf (I .stored h) p more .outcome ≡ done
+    → take command-size (reportOf (H .stored g) p out .output) ≡ take command-size (reportOf (I .stored h) p more .output)
+
+-- ---- what an honest hub is never told
+
+-- Every stored state is legal.
 abbrev pub LegalStates : Type 0
 LegalStates =
-    (N : ℕ) (H : Home) (h : ℕ) → Reached N H → isHub N h ≡ true
-    → (s : State) × (readState (record { size = N; own = h }) (H .states h) ≡ some s)
+    (G : Group) (H : Home) (h : ℕ) → Reached hub-engine G H → (s : State) × (readState (hubOf G h) (H .stored h) ≡ some s)
 
--- No message that a hub wrote is refused with 4 by any hub.
+-- No hub ever answers 2, not even after a loss of power.
+abbrev pub NeverBadState : Type 0
+NeverBadState = (G : Group) (H : Home) (d : Deed) → Reached hub-engine G H → Fair hub-engine H d → stepOf (callFor G d) .outcome ≡ bad-state → ⊥
+
+-- Every text that a hub wrote is read as a message.
 abbrev pub LegalMessages : Type 0
-LegalMessages = (N : ℕ) (H : Home) (t : List ℕ) → Reached N H → t ∈ H .sent → (m : Message) × (read t ≡ some m)
+LegalMessages = (G : Group) (H : Home) (t : List ℕ) → Reached hub-engine G H → t ∈ H .sent → (m : Message) × (read t ≡ some m)
+
+-- No text that a hub of the home wrote is answered with 4 or with 7, by any hub, at any moment: those are signs of damage.
+pub record Accepted (G : Group) (d : Deed) : Type 0 where
+  pub reads : stepOf (callFor G d) .outcome ≡ bad-message → ⊥
+  pub agrees : stepOf (callFor G d) .outcome ≡ contradicting → ⊥
+
+abbrev pub NeverContradicted : Type 0
+NeverContradicted =
+    (G : Group) (H : Home) (d : Deed) → Reached hub-engine G H → Fair hub-engine H d → eventOf (d .event) ≡ some receive-event
+    → d .input ∈ H .sent → Accepted G d

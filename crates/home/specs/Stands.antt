@@ -1,4 +1,4 @@
--- Why 01's hubs are MultiPaxos: what holds of every group that can come about, in one place. The group stands over a hall of views (the
+-- Why the hubs are MultiPaxos: what holds of every household that can come about, in one place. It stands over a hall of views (the
 -- machine's history, who gave whom its report, each hub's view) and over one ghost of its own, `made`: for each term the log of whoever
 -- leads it, as far as it has grown. No two logs are ever compared with each other: each is compared with `made`. Assumes nothing.
 use Prim.Native.Nat.{ℕ, zero, suc, _+_, _≤_, _<_}
@@ -7,18 +7,17 @@ use mathlib.Core.Bool.{Bool, true, false}
 use mathlib.Core.List.{List}
 use mathlib.Core.Option.{some}
 use lib.ListN.{length, getElem?}
+use Rattle.kinds.specs.Sizes.{Group}
+use Rattle.kinds.specs.Hubs.{ofHub}
 use Rattle.command.specs.Command.{Command}
 use Rattle.command.specs.Entry.{Entry}
 use Rattle.message.specs.Message.{Message, Body, vote-request, vote-yes, vote-no, append, append-yes, append-no}
-use Rattle.message.specs.Legal.{legalMessage}
 use Rattle.state.specs.State.{Kept, Pair, Lost, follower, candidate, leader, State}
-use Rattle.state.specs.Legal.{legalState}
-use Rattle.paxos.specs.Paxos.{Seen, never, at, asked, proposed, voted, _∈_}
+use Rattle.paxos.specs.Paxos.{Seen, never, at, proposed, voted, _∈_}
 use Rattle.views.specs.Hall.{gave, Hall, Leads}
-use Rattle.views.specs.Fits.{Settled, Fits}
+use Rattle.views.specs.Faithful.{Settled, Faithful}
 use Rattle.views.specs.Best.{Top}
-use Rattle.home.specs.Group.{Group, hubOf}
-use Rattle.home.specs.Seen.{tells, viewOf, counts, tally, ofHub}
+use Rattle.home.specs.View.{tells, viewOf, counts, tally, machine}
 
 infix 50 _⊑_
 -- What a log has at an index the other has there too: so it is a prefix of it.
@@ -47,9 +46,9 @@ abbrev pub Proposed : Hall Command → Logs → Type 0
 Proposed H made = (t i : ℕ) (e : Entry) → getElem? (made t) i ≡ some e → proposed t (suc i) (e .command) ∈ H .past
 
 -- The ground that all hubs stand on.
-pub record Ground (N : ℕ) (H : Hall Command) (made : Logs) : Type 0 where
+pub record Ground (G : Group) (H : Hall Command) (made : Logs) : Type 0 where
   -- The hall fits the machine.
-  pub fits : Fits N H
+  pub faithful : Faithful (machine G) H
   -- The leaders' logs match.
   pub matching : Matching made
   -- And are proposed.
@@ -65,13 +64,13 @@ Backs H made h t n =
 -- A vote-yes is a gift: the report that it carries tells of no ballot above b, and of the entries after last at b.
 pub record Yields (H : Hall Command) (h t to last b : ℕ) (entries : List Entry) : Type 0 where
   -- What the hub reported, place by place.
-  pub report : ℕ → Seen Command
+  pub seen : ℕ → Seen Command
   -- It gave it to the hub that the message is for.
-  pub given : gave h t to report ∈ H .gifts
+  pub given : gave h t to seen ∈ H .gifts
   -- No ballot in it is above b.
-  pub low : (p k : ℕ) (c : Command) → report p ≡ at k c → k ≤ b
+  pub low : (p k : ℕ) (c : Command) → seen p ≡ at k c → k ≤ b
   -- After last it tells of the entries, and of nothing beyond them.
-  pub beyond : (i : ℕ) → report (suc (last + i)) ≡ tells b (getElem? entries i)
+  pub beyond : (i : ℕ) → seen (suc (last + i)) ≡ tells b (getElem? entries i)
 
 -- The log has an entry of the term prevterm at the place prev; nothing is asked of place 0.
 abbrev pub Follows : List Entry → ℕ → ℕ → Type 0
@@ -79,27 +78,31 @@ Follows log zero prevterm = Unit {0}
 Follows log (suc i) prevterm = (e : Entry) × (getElem? log i ≡ some e) × (e .term ≡ prevterm)
 
 -- An append is a part of its term's log, and its chosen places are settled.
-pub record Carries (N : ℕ) (H : Hall Command) (made : Logs) (t prev prevterm chosen : ℕ) (entries : List Entry) : Type 0 where
+pub record Carries (G : Group) (H : Hall Command) (made : Logs) (t from prev prevterm chosen : ℕ) (entries : List Entry) : Type 0 where
+  -- Who sends it leads the term, elected by these on what they reported.
+  pub backers : ℕ → Bool
+  pub seen : ℕ → ℕ → Seen Command
+  pub leads : Leads (machine G) (H .gifts) t from backers seen
   -- What stands at prev has the term prevterm.
   pub after : Follows (made t) prev prevterm
   -- The entries stand behind prev.
   pub part : (i : ℕ) (e : Entry) → getElem? entries i ≡ some e → getElem? (made t) (prev + i) ≡ some e
   -- The places 1..chosen are settled.
   pub settled :
-      (i : ℕ) → i < chosen → (e : Entry) × (getElem? (made t) i ≡ some e) × Settled N (H .past) t (suc i) (e .command)
+      (i : ℕ) → i < chosen → (e : Entry) × (getElem? (made t) i ≡ some e) × Settled (machine G) (H .past) t (suc i) (e .command)
 
 -- What the message says is true. Requests and refusals say nothing that anybody relies on.
-abbrev pub TrueBody : (N : ℕ) → Hall Command → Logs → ℕ → ℕ → ℕ → Body → Type 0
-TrueBody N H made t from to (vote-request last ballot) = Unit {0}
-TrueBody N H made t from to (vote-yes last ballot entries) = Yields H from t to last ballot entries
-TrueBody N H made t from to vote-no = Unit {0}
-TrueBody N H made t from to (append prev prevterm chosen entries) = Carries N H made t prev prevterm chosen entries
-TrueBody N H made t from to (append-yes end) = Backs H made from t end
-TrueBody N H made t from to (append-no length) = Unit {0}
+abbrev pub TrueBody : (G : Group) → Hall Command → Logs → ℕ → ℕ → ℕ → Body → Type 0
+TrueBody G H made t from to (vote-request last ballot) = Unit {0}
+TrueBody G H made t from to (vote-yes last ballot entries) = Yields H from t to last ballot entries
+TrueBody G H made t from to vote-no = Unit {0}
+TrueBody G H made t from to (append prev prevterm chosen entries) = Carries G H made t from prev prevterm chosen entries
+TrueBody G H made t from to (append-yes end) = Backs H made from t end
+TrueBody G H made t from to (append-no length) = Unit {0}
 
 -- The message is true.
-abbrev pub True : (N : ℕ) → Hall Command → Logs → Message → Type 0
-True N H made m = TrueBody N H made (m .term) (m .from) (m .to) (m .body)
+abbrev pub True : (G : Group) → Hall Command → Logs → Message → Type 0
+True G H made m = TrueBody G H made (m .term) (m .from) (m .to) (m .body)
 
 -- ---- hubs
 
@@ -113,12 +116,12 @@ pub record Standing (H : Hall Command) (h : ℕ) (k : Kept) (voters : List Bool)
   pub best : (i : ℕ) → Top (ofHub voters false) (λ g. seen g (suc i)) (counts (getElem? (tally k gathered) i))
 
 -- A leader.
-pub record Leading (N : ℕ) (H : Hall Command) (made : Logs) (h : ℕ) (k : Kept) (confirmed : List ℕ) : Type 0 where
+pub record Leading (G : Group) (H : Hall Command) (made : Logs) (h : ℕ) (k : Kept) (confirmed : List ℕ) : Type 0 where
   -- Who elected it, and what they reported.
   pub backers : ℕ → Bool
   pub seen : ℕ → ℕ → Seen Command
   -- They are a majority that gave it their reports at its term.
-  pub leads : Leads N (H .gifts) (k .term) h backers seen
+  pub leads : Leads (machine G) (H .gifts) (k .term) h backers seen
   -- They told of nothing beyond its log: there it may propose what clients ask for.
   pub free : (g p : ℕ) → backers g ≡ true → length (k .log) < p → seen g p ≡ never
   -- Its log is its term's, whole.
@@ -127,35 +130,16 @@ pub record Leading (N : ℕ) (H : Hall Command) (made : Logs) (h : ℕ) (k : Kep
   pub backed : (g : ℕ) → Backs H made g (k .term) (ofHub confirmed 0 g)
 
 -- What holds of a hub by its role.
-abbrev pub InRole : (N : ℕ) → Hall Command → Logs → ℕ → Kept → Lost → Type 0
-InRole N H made h k follower = Unit {0}
-InRole N H made h k (candidate voters gathered) = Standing H h k voters gathered
-InRole N H made h k (leader confirmed) = Leading N H made h k confirmed
+abbrev pub InRole : (G : Group) → Hall Command → Logs → ℕ → Kept → Lost → Type 0
+InRole G H made h k follower = Unit {0}
+InRole G H made h k (candidate voters gathered) = Standing H h k voters gathered
+InRole G H made h k (leader confirmed) = Leading G H made h k confirmed
 
 -- What holds of hub h with the state s.
-pub record Rooted (N : ℕ) (H : Hall Command) (made : Logs) (h : ℕ) (s : State) : Type 0 where
+pub record Rooted (G : Group) (H : Hall Command) (made : Logs) (h : ℕ) (s : State) : Type 0 where
   -- The machine knows it by its view.
   pub view : H .view h ≡ viewOf (s .kept)
   -- Its log is a part of its ballot's.
   pub prefix : s .kept .log ⊑ made (s .kept .ballot)
   -- And it is as its role has it.
-  pub role : InRole N H made h (s .kept) (s .lost)
-
--- ---- the group
-
--- The group stands for the machine.
-pub record Stands (N : ℕ) (G : Group) (H : Hall Command) : Type 0 where
-  -- The leaders' logs.
-  pub made : Logs
-  -- The hall and they are as they have to be.
-  pub ground : Ground N H made
-  -- So is every hub.
-  pub hubs : (h : ℕ) → Rooted N H made h (G .states h)
-  -- Every message ever written is true.
-  pub sent : (m : Message) → m ∈ G .sent → True N H made m
-  -- What the machine's clients asked for was proposed to some hub.
-  pub asks : (c : Command) → asked c ∈ H .past → c ∈ G .asked
-  -- States are legal.
-  pub legal : (h : ℕ) → legalState (hubOf N h) (G .states h) ≡ true
-  -- So are messages.
-  pub well : (m : Message) → m ∈ G .sent → legalMessage m ≡ true
+  pub role : InRole G H made h (s .kept) (s .lost)

@@ -1,13 +1,8 @@
 -- Standing in a list. Assumes nothing.
 use mathlib.Core.Path.{_≡_, refl, sym, subst}
 use mathlib.Core.List.{List, [], _∷_}
-use Prim.Native.Nat.{ℕ}
-use native.Mathlib.Omega.{arith}
+pub use Rattle.kinds.proofs.Clash.{clash}
 use Rattle.paxos.specs.Paxos.{_∈_, here, there}
-
--- Two different constructors are equal: `clash (cc)` proves anything from that.
-pub clash : {P : Type 0} → _≡_ {A = ℕ} 0 1 → P
-clash z = absurd (omega arith)
 
 -- What stands in `f ∷ s` is `f`, or stands in `s`.
 pub new : {A P : Type 0} {e f : A} {s : List A} → e ∈ (f ∷ s) → (e ≡ f → P) → (e ∈ s → P) → P

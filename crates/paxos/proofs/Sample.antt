@@ -8,10 +8,14 @@ use Prim.Native.Nat.{ℕ, _≤_, _<_}
 use native.Mathlib.Omega.{arith}
 use Rattle.paxos.specs.Put.{put}
 use Rattle.paxos.specs.Quorum.{IsHub, count, Majority}
-use Rattle.paxos.specs.Paxos.{Seen, never, at, Event, asked, raised, reported, proposed, voted, History, _∈_, here, there, promise, Highest, Free, highest, any, Can, ask, raise, report, propose, vote, done, next, Run, ChosenAt}
+use Rattle.paxos.specs.Paxos.{Machine, client's, Seen, never, at, Event, asked, raised, reported, proposed, voted, History, _∈_, here, there, promise, Highest, Free, highest, any, Can, ask, raise, report, propose, vote, done, next, Run, ChosenAt}
 use Rattle.paxos.proofs.PutLaws.{put-cases}
 use Rattle.paxos.proofs.Member.{clash}
 use Rattle.paxos.proofs.Theorems.{binds, stays-at, votes-choose}
+
+-- Three hubs; the machine has no command of its own.
+abbrev pub trio : Machine ℕ
+trio = record { size = 3; own = λ c. false }
 
 -- ---- sets of two hubs
 
@@ -90,14 +94,14 @@ pub nil : ℕ → Seen ℕ
 nil p = never
 
 -- A hub of which there is no vote reports none.
-reports-nil : {s : History ℕ} {h b : ℕ} → IsHub 3 h → promise s h ≡ b → All (Not-by h) s → Can 3 s (reported h b nil)
+reports-nil : {s : History ℕ} {h b : ℕ} → IsHub 3 h → promise s h ≡ b → All (Not-by h) s → Can trio s (reported h b nil)
 unfolding nil
 reports-nil {h} is e a = report {seen = nil} is e (λ p b c m. member (Not-by h) a m refl)
 
 abbrev s₁ : History ℕ
 s₁ = reported 2 1 nil ∷ (reported 1 1 nil ∷ (raised 2 1 ∷ (raised 1 1 ∷ (asked 8 ∷ (asked 7 ∷ [])))))
 
-run₁ : Run 3 s₁
+run₁ : Run trio s₁
 unfolding promise put
 run₁ =
     let zero-one : 0 < 1 = omega arith in
@@ -117,7 +121,7 @@ abbrev s₂ : History ℕ
 s₂ = voted 2 1 1 7 ∷ (voted 1 1 1 7 ∷ (proposed 1 1 7 ∷ s₁))
 
 -- Hubs 1 and 2 vote at the ballot 1.
-run₂ : Run 3 s₂
+run₂ : Run trio s₂
 unfolding promise put nil
 run₂ =
     let one-one : 1 ≤ 1 = omega arith in
@@ -126,13 +130,13 @@ run₂ =
     (next run₁
     (propose (pair 1 2) (λ h. nil) most₁₂
     (both (λ h. reported h 1 nil ∈ s₁) 1 2 (there here) here)
-    (any (λ h q. refl) (there (there (there (there (there here))))))
+    (any (λ h q. refl) (client's (there (there (there (there (there here)))))))
     (free 1 s₁ (omega arith))))
     (vote hub₁ here one-one))
     (vote hub₂ (there here) one-one)
 
 -- So 7 is chosen.
-pub first : ChosenAt 3 s₂ 1 1 7
+pub first : ChosenAt trio s₂ 1 1 7
 first = votes-choose (pair 1 2) run₂ most₁₂ (both (λ h. voted h 1 1 7 ∈ s₂) 1 2 (there here) here)
 
 -- ---- the second ballot
@@ -147,7 +151,7 @@ seen = put (λ h. nil) 2 seven
 
 -- A hub that did, where all votes are of ballot 1 and place 1, reports that.
 reports-seven :
-    {s : History ℕ} {h b : ℕ} → IsHub 3 h → promise s h ≡ b → voted h 1 1 7 ∈ s → All At-one s → Can 3 s (reported h b seven)
+    {s : History ℕ} {h b : ℕ} → IsHub 3 h → promise s h ≡ b → voted h 1 1 7 ∈ s → All At-one s → Can trio s (reported h b seven)
 unfolding seven nil
 reports-seven {s} {h} is e v a =
     report is e
@@ -159,7 +163,7 @@ abbrev s₃ : History ℕ
 s₃ = reported 3 2 (seen 3) ∷ (reported 2 2 (seen 2) ∷ (raised 3 2 ∷ (raised 2 2 ∷ s₂)))
 
 -- Hubs 2 and 3 go over to the ballot 2 and report.
-run₃ : Run 3 s₃
+run₃ : Run trio s₃
 unfolding promise put seen
 run₃ =
     let less : 1 < 2 = omega arith in
@@ -174,11 +178,11 @@ run₃ =
     (reports-nil hub₃ refl (omega arith))
 
 -- Whatever is proposed at the ballot 2 for the place 1 must be 7.
-pub must : (c : ℕ) → Can 3 s₃ (proposed 2 1 c) → c ≡ 7
+pub must : (c : ℕ) → Can trio s₃ (proposed 2 1 c) → c ≡ 7
 must c k = binds (next run₃ k) (stays-at (λ e m. there (there (there (there (there m))))) first) here (omega arith)
 
 -- And 7 may be proposed.
-pub may : Can 3 s₃ (proposed 2 1 7)
+pub may : Can trio s₃ (proposed 2 1 7)
 unfolding seen seven put nil pair
 may =
     propose (pair 2 3) seen most₂₃
@@ -189,12 +193,12 @@ may =
 abbrev s₄ : History ℕ
 s₄ = voted 3 2 1 7 ∷ (voted 2 2 1 7 ∷ (proposed 2 1 7 ∷ s₃))
 
-run₄ : Run 3 s₄
+run₄ : Run trio s₄
 unfolding promise put
 run₄ =
     let two-two : 2 ≤ 2 = omega arith in
     next (next (next run₃ may) (vote hub₂ here two-two)) (vote hub₃ (there here) two-two)
 
 -- Chosen once more, at the ballot 2 and by other hubs: the same command.
-pub second : ChosenAt 3 s₄ 2 1 7
+pub second : ChosenAt trio s₄ 2 1 7
 second = votes-choose (pair 2 3) run₄ most₂₃ (both (λ h. voted h 2 1 7 ∈ s₄) 2 3 (there here) here)

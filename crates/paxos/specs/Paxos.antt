@@ -1,7 +1,8 @@
--- MultiPaxos, the machine that the hubs are mapped to (document 01, in its words and order).
+-- MultiPaxos, the machine that the hubs are mapped to (rule R36).
 -- Its state is its history, the events so far, newest first: from it one reads each hub's promised ballot, the set of votes
--- (hub, ballot, place, command), and the proposals. Ballots and places are numbers, commands are of any type C; hubs are 1..N.
--- Departs from 01 in one thing: that a client asks for a command is an event of its own, so that "any client's" can be said.
+-- (hub, ballot, place, command), and the proposals. Ballots and places are numbers, commands are of any type C; hubs are 1..size.
+-- Departs from that rule in two things: that a client asks for a command is an event of its own, so that "any client's" can be said; and a
+-- machine may have commands of its own, which it proposes without being asked where no vote was reported. The machine of these hubs has none.
 -- Edges: before any promise a hub's promised ballot is 0. Assumes nothing.
 use mathlib.Core.Path.{_≡_}
 use mathlib.Core.Bool.{Bool, true}
@@ -9,6 +10,13 @@ use mathlib.Core.List.{List, [], _∷_}
 use Prim.Native.Nat.{ℕ, _≤_, _<_}
 use Rattle.paxos.specs.Put.{put}
 use Rattle.paxos.specs.Quorum.{IsHub, Majority}
+
+-- ---- the machine
+
+-- How many hubs it has, and which commands it may propose of itself.
+pub record Machine (C : Type 0) : Type 0 where
+  pub size : ℕ
+  pub own : C → Bool
 
 -- ---- the history
 
@@ -58,54 +66,59 @@ module _ {C : Type 0} where
   abbrev pub Free : History C → ℕ → ℕ → Type 0
   Free s b p = (c : C) → proposed b p c ∈ s → ⊥
 
+-- Some client asked for the command, or it is the machine's own.
+pub data Wanted {C : Type 0} (M : Machine C) (s : History C) (c : C) : Type 0 where
+  client's : asked c ∈ s → Wanted M s c
+  machine's : M .own c ≡ true → Wanted M s c
+
 -- What may be proposed for a place of which each hub `h` of the set `Q` reported `seen h`:
--- the command of their highest vote, or any client's if there is none.
-pub data Pick {C : Type 0} (s : History C) (Q : ℕ → Bool) (seen : ℕ → Seen C) (c : C) : Type 0 where
+-- the command of their highest vote, or any client's, or one of the machine's own, if there is none.
+pub data Pick {C : Type 0} (M : Machine C) (s : History C) (Q : ℕ → Bool) (seen : ℕ → Seen C) (c : C) : Type 0 where
   highest :
       (h b : ℕ) → Q h ≡ true → seen h ≡ at b c
       → ((g k : ℕ) (d : C) → Q g ≡ true → seen g ≡ at k d → k ≤ b)
-      → Pick s Q seen c
-  any : ((h : ℕ) → Q h ≡ true → seen h ≡ never) → asked c ∈ s → Pick s Q seen c
+      → Pick M s Q seen c
+  any : ((h : ℕ) → Q h ≡ true → seen h ≡ never) → Wanted M s c → Pick M s Q seen c
 
 -- ---- the steps
 
 -- What may happen next.
-pub data Can {C : Type 0} (N : ℕ) (s : History C) : Event C → Type 0 where
+pub data Can {C : Type 0} (M : Machine C) (s : History C) : Event C → Type 0 where
   -- A client asks for a command, at any time.
-  ask : {c : C} → Can N s (asked c)
+  ask : {c : C} → Can M s (asked c)
   -- A hub raises its promise.
-  raise : {h b : ℕ} → IsHub N h → promise s h < b → Can N s (raised h b)
+  raise : {h b : ℕ} → IsHub (M .size) h → promise s h < b → Can M s (raised h b)
   -- A hub reports, at the ballot that it has promised, its highest vote per place.
-  report : {h b : ℕ} {seen : ℕ → Seen C} → IsHub N h → promise s h ≡ b → ((p : ℕ) → Highest s h p (seen p)) → Can N s (reported h b seen)
+  report : {h b : ℕ} {seen : ℕ → Seen C} → IsHub (M .size) h → promise s h ≡ b → ((p : ℕ) → Highest s h p (seen p)) → Can M s (reported h b seen)
   -- Once a majority reported at the ballot, a command is proposed there that the reports allow, one for each place at most.
   propose :
       {b p : ℕ} {c : C} (Q : ℕ → Bool) (seen : ℕ → ℕ → Seen C)
-      → Majority N Q
+      → Majority (M .size) Q
       → ((h : ℕ) → Q h ≡ true → reported h b (seen h) ∈ s)
-      → Pick s Q (λ h. seen h p) c
+      → Pick M s Q (λ h. seen h p) c
       → Free s b p
-      → Can N s (proposed b p c)
+      → Can M s (proposed b p c)
   -- A hub votes for a proposal if its promise is not above it.
-  vote : {h b p : ℕ} {c : C} → IsHub N h → proposed b p c ∈ s → promise s h ≤ b → Can N s (voted h b p c)
+  vote : {h b p : ℕ} {c : C} → IsHub (M .size) h → proposed b p c ∈ s → promise s h ≤ b → Can M s (voted h b p c)
 
 -- Zero or more steps from one history to another.
-pub data Steps {C : Type 0} (N : ℕ) (s : History C) : History C → Type 0 where
-  done : Steps N s s
-  next : {t : History C} {e : Event C} → Steps N s t → Can N t e → Steps N s (e ∷ t)
+pub data Steps {C : Type 0} (M : Machine C) (s : History C) : History C → Type 0 where
+  done : Steps M s s
+  next : {t : History C} {e : Event C} → Steps M s t → Can M t e → Steps M s (e ∷ t)
 
--- A history that the machine of N hubs can come to, from nothing.
-abbrev pub Run : {C : Type 0} → ℕ → History C → Type 0
-Run N s = Steps N [] s
+-- A history that the machine can come to, from nothing.
+abbrev pub Run : {C : Type 0} → Machine C → History C → Type 0
+Run M s = Steps M [] s
 
 -- ---- what is chosen
 
 -- At the ballot `b` the command `c` is chosen at the place `p`: that ballot's proposal has a majority's votes.
-pub record ChosenAt {C : Type 0} (N : ℕ) (s : History C) (b p : ℕ) (c : C) : Type 0 where
+pub record ChosenAt {C : Type 0} (M : Machine C) (s : History C) (b p : ℕ) (c : C) : Type 0 where
   pub voters : ℕ → Bool
-  pub most : Majority N voters
+  pub most : Majority (M .size) voters
   pub proposal : proposed b p c ∈ s
   pub votes : (h : ℕ) → voters h ≡ true → voted h b p c ∈ s
 
 -- The command `c` is chosen at the place `p`, at one ballot.
-abbrev pub Chosen : {C : Type 0} (N : ℕ) → History C → ℕ → C → Type 0
-Chosen N s p c = (b : ℕ) × ChosenAt N s b p c
+abbrev pub Chosen : {C : Type 0} (M : Machine C) → History C → ℕ → C → Type 0
+Chosen M s p c = (b : ℕ) × ChosenAt M s b p c

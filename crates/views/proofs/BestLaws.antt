@@ -6,7 +6,7 @@ use Prim.Native.Nat.{ℕ, _≤_, _<_}
 use native.Mathlib.Omega.{arith}
 use native.Mathlib.Decide.{decLt}
 use Rattle.paxos.specs.Put.{choose, put}
-use Rattle.paxos.specs.Paxos.{Seen, never, at, asked, History, _∈_, Pick, highest, any}
+use Rattle.paxos.specs.Paxos.{Wanted, Machine, Seen, never, at, History, Pick, highest, any}
 use Rattle.paxos.proofs.PutLaws.{put-cases, put-same, put-other}
 use Rattle.paxos.proofs.Member.{clash}
 use Rattle.views.specs.Best.{better, Top}
@@ -59,11 +59,11 @@ module _ {C : Type 0} (Q : ℕ → Bool) (f : ℕ → Seen C) where
       by (no ge) = (one-more g (at k d) out (t .0), low-more b g (at k d) (at-most k d (omega arith)) (t .1))
 
   -- The highest vote reported may be proposed.
-  pub top-pick : {s : History C} (b : ℕ) (c : C) → Top Q f (at b c) → Pick s Q f c
+  pub top-pick : {M : Machine C} {s : History C} (b : ℕ) (c : C) → Top Q f (at b c) → Pick M s Q f c
   top-pick b c ((h, q, e), low) = highest h b q e low
 
-  -- Where none was reported, any client's command may.
-  pub top-any : {s : History C} {c : C} → Top Q f never → asked c ∈ s → Pick s Q f c
+  -- Where none was reported, whatever is wanted may.
+  pub top-any : {M : Machine C} {s : History C} {c : C} → Top Q f never → Wanted M s c → Pick M s Q f c
   top-any none a = any none a
 
 -- The first report, a candidate's own, is the tally.

@@ -6,12 +6,12 @@ use mathlib.Core.Bool.{Bool, true}
 use mathlib.Core.List.{List, _∷_}
 use Prim.Native.Nat.{ℕ, _≤_, _<_}
 use native.Mathlib.Omega.{arith}
-use Rattle.paxos.specs.Paxos.{Seen, never, at, Event, asked, raised, reported, proposed, voted, History, _∈_, here, there, _⊆_, promise, Highest, Run}
+use Rattle.paxos.specs.Paxos.{Machine, Seen, never, at, Event, asked, raised, reported, proposed, voted, History, _∈_, here, there, _⊆_, promise, Highest, Run}
 use Rattle.paxos.proofs.PutLaws.{put-cases, put-same, put-other}
 use Rattle.paxos.proofs.Member.{new}
 use Rattle.paxos.proofs.Theorems.{binds, stays-at}
 use Rattle.views.specs.Hall.{View, with-term, with-says, with-vote, Gift, gave}
-use Rattle.views.specs.Fits.{Settled, Known, Keeps}
+use Rattle.views.specs.Faithful.{Settled, Known, Keeps}
 
 -- The event is no promise and no vote of hub `g`.
 abbrev pub Other : {C : Type 0} → ℕ → Event C → Type 0
@@ -58,18 +58,18 @@ module _ {C : Type 0} where
   highest-top never f low m = absurd (f _ _ m)
   highest-top (at b c) f low m = omega (arith, f .1 _ _ m, low b c refl)
 
-module _ {C : Type 0} {N : ℕ} where
+module _ {C : Type 0} {M : Machine C} where
   -- What is settled stays so, and at later terms.
-  pub settled-on : {s t : History C} {k l p : ℕ} {c : C} → s ⊆ t → k ≤ l → Settled N s k p c → Settled N t l p c
+  pub settled-on : {s t : History C} {k l p : ℕ} {c : C} → s ⊆ t → k ≤ l → Settled M s k p c → Settled M t l p c
   settled-on sub le (b, low, x) = (b, omega arith, stays-at sub x)
 
   -- What is known stays so, and at later terms.
-  known-on : {s t : History C} {k l p : ℕ} {x : Seen C} → s ⊆ t → k ≤ l → Known N s k p x → Known N t l p x
+  known-on : {s t : History C} {k l p : ℕ} {x : Seen C} → s ⊆ t → k ≤ l → Known M s k p x → Known M t l p x
   known-on sub le x = record { ballot = x .ballot; command = x .command; is = x .is; settled = settled-on sub le (x .settled) }
 
-module _ {C : Type 0} {N : ℕ} {s : History C} {G : List (Gift C)} {h : ℕ} {v : View C} (ok : Keeps N s G h v) where
+module _ {C : Type 0} {M : Machine C} {s : History C} {G : List (Gift C)} {h : ℕ} {v : View C} (ok : Keeps M s G h v) where
   -- Another's event: nothing changes for the hub.
-  pub keeps-event : (e : Event C) → Other h e → Keeps N (e ∷ s) G h v
+  pub keeps-event : (e : Event C) → Other h e → Keeps M (e ∷ s) G h v
   keeps-event e o =
       record {
         promised = promise-other s h e o ∙ ok .promised;
@@ -80,7 +80,7 @@ module _ {C : Type 0} {N : ℕ} {s : History C} {G : List (Gift C)} {h : ℕ} {v
       }
 
   -- A gift: if it is this hub's own, it is of its term.
-  pub keeps-gift : (g t l : ℕ) (x : ℕ → Seen C) → (h ≡ g → t ≤ v .term) → Keeps N s (gave g t l x ∷ G) h v
+  pub keeps-gift : (g t l : ℕ) (x : ℕ → Seen C) → (h ≡ g → t ≤ v .term) → Keeps M s (gave g t l x ∷ G) h v
   keeps-gift g t l x le =
       record {
         promised = ok .promised;
@@ -91,7 +91,7 @@ module _ {C : Type 0} {N : ℕ} {s : History C} {G : List (Gift C)} {h : ℕ} {v
       }
 
   -- The hub raises its term.
-  pub keeps-raise : (t : ℕ) → v .term < t → Keeps N (raised h t ∷ s) G h (with-term v t)
+  pub keeps-raise : (t : ℕ) → v .term < t → Keeps M (raised h t ∷ s) G h (with-term v t)
   unfolding promise
   keeps-raise t lt =
       record {
@@ -104,7 +104,7 @@ module _ {C : Type 0} {N : ℕ} {s : History C} {G : List (Gift C)} {h : ℕ} {v
 
   -- The hub reports other places as chosen.
   pub keeps-say :
-      (w : ℕ → Bool) → ((p : ℕ) → w p ≡ true → (v .says p ≡ true) ⊎ Known N s (v .term) p (v .holds p)) → Keeps N s G h (with-says v w)
+      (w : ℕ → Bool) → ((p : ℕ) → w p ≡ true → (v .says p ≡ true) ⊎ Known M s (v .term) p (v .holds p)) → Keeps M s G h (with-says v w)
   keeps-say w all =
       record {
         promised = ok .promised;
@@ -115,7 +115,7 @@ module _ {C : Type 0} {N : ℕ} {s : History C} {G : List (Gift C)} {h : ℕ} {v
       }
 
   -- The hub votes at its term.
-  pub keeps-vote : (p : ℕ) (c : C) → Run N s → proposed (v .term) p c ∈ s → Keeps N (voted h (v .term) p c ∷ s) G h (with-vote v p c)
+  pub keeps-vote : (p : ℕ) (c : C) → Run M s → proposed (v .term) p c ∈ s → Keeps M (voted h (v .term) p c ∷ s) G h (with-vote v p c)
   unfolding promise
   keeps-vote p c run m =
       record {
@@ -130,7 +130,7 @@ module _ {C : Type 0} {N : ℕ} {s : History C} {G : List (Gift C)} {h : ℕ} {v
             (λ q ne. ok .low q);
         early = ok .early;
         said =
-            put-cases (λ q y. v .says q ≡ true → Known N s′ (v .term) q y) (v .holds) p x
+            put-cases (λ q y. v .says q ≡ true → Known M s′ (v .term) q y) (v .holds) p x
             (λ w. same (ok .said p w))
             (λ q ne w. known-on (λ a z. there z) (omega arith) (ok .said q w));
       }
@@ -142,7 +142,7 @@ module _ {C : Type 0} {N : ℕ} {s : History C} {G : List (Gift C)} {h : ℕ} {v
       s′ = voted h (v .term) p c ∷ s
 
       -- What was settled at this place is what is proposed now.
-      same : {y : Seen C} → Known N s (v .term) p y → Known N s′ (v .term) p x
+      same : {y : Seen C} → Known M s (v .term) p y → Known M s′ (v .term) p x
       same k =
           let (b, le, ch) = k .settled in
           record {

@@ -1,5 +1,5 @@
 pub mod KeepsLaws
-pub mod FitsLaws
+pub mod FaithfulLaws
 pub mod Theorems
 pub mod Moves
 pub mod BestLaws

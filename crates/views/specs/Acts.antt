@@ -8,38 +8,38 @@ use mathlib.Core.Bool.{Bool, true}
 use mathlib.Core.List.{_∷_}
 use Prim.Native.Nat.{ℕ, _<_}
 use Rattle.paxos.specs.Quorum.{IsHub}
-use Rattle.paxos.specs.Paxos.{Seen, raised, proposed, voted, _∈_, Pick}
-use Rattle.views.specs.Hall.{with-term, with-says, with-vote, Hall, asking, giving, turned, Ungiven, Unmade, Leads}
-use Rattle.views.specs.Fits.{Known}
+use Rattle.paxos.specs.Paxos.{Machine, Seen, raised, proposed, voted, _∈_, Pick}
+use Rattle.views.specs.Hall.{with-term, with-says, with-vote, Hall, asking, giving, turned, Ungiven, Open, Leads}
+use Rattle.views.specs.Faithful.{Known}
 
 -- One action.
-pub data Act {C : Type 0} (N : ℕ) (H : Hall C) : Hall C → Type 0 where
+pub data Act {C : Type 0} (M : Machine C) (H : Hall C) : Hall C → Type 0 where
   -- A client asks for a command.
-  ask : {c : C} → Act N H (asking H c)
+  ask : {c : C} → Act M H (asking H c)
   -- A hub raises its term.
-  raise : {h t : ℕ} → IsHub N h → H .view h .term < t → Act N H (turned H (raised h t ∷ H .past) h (with-term (H .view h) t))
+  raise : {h t : ℕ} → IsHub (M .size) h → H .view h .term < t → Act M H (turned H (raised h t ∷ H .past) h (with-term (H .view h) t))
   -- A hub gives its report at its term to hub l: once.
-  give : {h l : ℕ} → IsHub N h → Ungiven (H .gifts) h (H .view h .term) → Act N H (giving H h l)
+  give : {h l : ℕ} → IsHub (M .size) h → Ungiven (H .gifts) h (H .view h .term) → Act M H (giving H h l)
   -- The leader of its term, which holds nothing of that term at the place, proposes what the reports allow and votes for it.
   make :
-      {h p : ℕ} {c : C} (Q : ℕ → Bool) (seen : ℕ → ℕ → Seen C) → IsHub N h
-      → Leads N (H .gifts) (H .view h .term) h Q seen
-      → Pick (H .past) Q (λ g. seen g p) c
-      → Unmade (H .view h) p
-      → Act N H
+      {h p : ℕ} {c : C} (Q : ℕ → Bool) (seen : ℕ → ℕ → Seen C) → IsHub (M .size) h
+      → Leads M (H .gifts) (H .view h .term) h Q seen
+      → Pick M (H .past) Q (λ g. seen g p) c
+      → Open (H .view h) p
+      → Act M H
       (turned H (voted h (H .view h .term) p c ∷ (proposed (H .view h .term) p c ∷ H .past)) h (with-vote (H .view h) p c))
   -- A hub takes what is proposed at its term: it votes for it.
   take :
-      {h p : ℕ} {c : C} → IsHub N h → proposed (H .view h .term) p c ∈ H .past
-      → Act N H (turned H (voted h (H .view h .term) p c ∷ H .past) h (with-vote (H .view h) p c))
+      {h p : ℕ} {c : C} → IsHub (M .size) h → proposed (H .view h .term) p c ∈ H .past
+      → Act M H (turned H (voted h (H .view h .term) p c ∷ H .past) h (with-vote (H .view h) p c))
   -- A hub reports more places as chosen, where what it holds is settled.
   say :
       {h : ℕ} (w : ℕ → Bool)
       → ((p : ℕ) → H .view h .says p ≡ true → w p ≡ true)
-      → ((p : ℕ) → w p ≡ true → (H .view h .says p ≡ true) ⊎ Known N (H .past) (H .view h .term) p (H .view h .holds p))
-      → Act N H (turned H (H .past) h (with-says (H .view h) w))
+      → ((p : ℕ) → w p ≡ true → (H .view h .says p ≡ true) ⊎ Known M (H .past) (H .view h .term) p (H .view h .holds p))
+      → Act M H (turned H (H .past) h (with-says (H .view h) w))
 
 -- Zero or more actions, one after the other.
-pub data Acts {C : Type 0} (N : ℕ) (H : Hall C) : Hall C → Type 0 where
-  done : Acts N H H
-  next : {I J : Hall C} → Acts N H I → Act N I J → Acts N H J
+pub data Acts {C : Type 0} (M : Machine C) (H : Hall C) : Hall C → Type 0 where
+  done : Acts M H H
+  next : {I J : Hall C} → Acts M H I → Act M I J → Acts M H J

@@ -1,6 +1,6 @@
 -- What hubs come to, seen from MultiPaxos, whatever their engine. A hub's view: its term, what it holds at each place, and the places
 -- that it reports as chosen. A hall: every hub's view, the machine's history, and one ghost, who gave whom its report (a gift).
--- An engine says which view each of its states has: 01's hub with the ballot b and n entries holds (b, command) at the places 1..n and
+-- An engine says which view each of its states has: a hub of these rules with the ballot b and n entries holds (b, command) at the places 1..n and
 -- `never` elsewhere; an engine whose entries carry ballots of their own and may leave holes is as good. Assumes nothing.
 use mathlib.Core.Path.{_≡_}
 use mathlib.Core.Bool.{Bool, true, false}
@@ -8,7 +8,7 @@ use mathlib.Core.List.{List, [], _∷_}
 use Prim.Native.Nat.{ℕ}
 use Rattle.paxos.specs.Put.{put}
 use Rattle.paxos.specs.Quorum.{Majority}
-use Rattle.paxos.specs.Paxos.{Seen, never, at, asked, reported, History, _∈_}
+use Rattle.paxos.specs.Paxos.{Machine, Seen, never, at, asked, reported, History, _∈_}
 
 -- ---- views
 
@@ -75,16 +75,16 @@ abbrev pub Ungiven : {C : Type 0} → List (Gift C) → ℕ → ℕ → Type 0
 Ungiven {C} G h t = (l : ℕ) (x : ℕ → Seen C) → gave h t l x ∈ G → ⊥
 
 -- A hub of the view `v` holds nothing of its term at the place `p`.
-abbrev pub Unmade : {C : Type 0} → View C → ℕ → Type 0
-Unmade {C} v p = (c : C) → v .holds p ≡ at (v .term) c → ⊥
+abbrev pub Open : {C : Type 0} → View C → ℕ → Type 0
+Open {C} v p = (c : C) → v .holds p ≡ at (v .term) c → ⊥
 
 -- Hub `h` leads the term `t`: a majority `Q` gave it their reports `seen` at `t`.
-pub record Leads {C : Type 0} (N : ℕ) (G : List (Gift C)) (t h : ℕ) (Q : ℕ → Bool) (seen : ℕ → ℕ → Seen C) : Type 0 where
-  pub most : Majority N Q
+pub record Leads {C : Type 0} (M : Machine C) (G : List (Gift C)) (t h : ℕ) (Q : ℕ → Bool) (seen : ℕ → ℕ → Seen C) : Type 0 where
+  pub most : Majority (M .size) Q
   pub all : (g : ℕ) → Q g ≡ true → gave g t h (seen g) ∈ G
 
--- Hub `h` reports the command `c` at the place `p`.
-pub record Reports {C : Type 0} (H : Hall C) (h p : ℕ) (c : C) : Type 0 where
+-- A hub of the view `v` says that the command `c` is chosen at the place `p`.
+pub record Says {C : Type 0} (v : View C) (p : ℕ) (c : C) : Type 0 where
   pub ballot : ℕ
-  pub says : H .view h .says p ≡ true
-  pub holds : H .view h .holds p ≡ at ballot c
+  pub says : v .says p ≡ true
+  pub holds : v .holds p ≡ at ballot c

@@ -1,5 +1,5 @@
 pub mod Hall
-pub mod Fits
+pub mod Faithful
 pub mod Acts
 pub mod Moves
 pub mod Best

@@ -1,14 +1,16 @@
--- 01's hub seen from MultiPaxos: "a hub with ballot b and length n counts as having voted at b for places 1..n". Assumes nothing.
+-- A hub seen from MultiPaxos (rule R37): with ballot b and length n it counts as having voted at b for places 1..n. Assumes nothing.
 use Prim.Native.Nat.{ℕ, zero, suc}
+use mathlib.Core.Bool.{false}
 use mathlib.Core.List.{List, map, _++_}
 use mathlib.Core.Option.{Option, none, some}
-use lib.ListN.{getElem?, getD}
-use Rattle.kinds.specs.Sizes.{between}
+use lib.ListN.{getElem?}
+use Rattle.kinds.specs.Sizes.{Group, between}
 use Rattle.command.specs.Command.{Command}
 use Rattle.command.specs.Entry.{Entry}
 use Rattle.state.specs.State.{Kept, Pair}
-use Rattle.paxos.specs.Paxos.{Seen, never, at}
-use Rattle.views.specs.Hall.{View}
+use Rattle.state.specs.Image.{readKept}
+use Rattle.paxos.specs.Paxos.{Machine, Seen, never, at}
+use Rattle.views.specs.Hall.{View, blank}
 
 -- What an entry at the ballot b, or none, counts as.
 abbrev pub tells : ℕ → Option Entry → Seen Command
@@ -24,6 +26,14 @@ holdsOf b log (suc i) = tells b (getElem? log i)
 abbrev pub viewOf : Kept → View Command
 viewOf k = record { term = k .term; holds = holdsOf (k .ballot) (k .log); says = between 1 (k .chosen) }
 
+-- The view of bytes: of their kept parts, and a fresh hub's where those are not legal.
+unfoldable pub viewIn : List ℕ → View Command
+viewIn l = elim (readKept l) [ none ↦ blank | some k ↦ viewOf k ]
+
+-- The machine that a group is mapped to. It has no command of its own.
+abbrev pub machine : Group → Machine Command
+machine G = record { size = G .size; own = λ c. false }
+
 -- What a gathered pair, or none, counts as.
 abbrev pub counts : Option Pair → Seen Command
 counts none = never
@@ -32,8 +42,3 @@ counts (some x) = at (x .ballot) (x .command)
 -- What a candidate would propose, place by place: its log's commands at its ballot, then what it gathered.
 unfoldable pub tally : Kept → List Pair → List Pair
 tally k gathered = map (λ e. record { ballot = k .ballot; command = e .command }) (k .log) ++ gathered
-
--- What a list over the seven hubs has for hub h, at h - 1; x for no hub's number.
-unfoldable pub ofHub : {A : Type 0} → List A → A → ℕ → A
-ofHub l x zero = x
-ofHub l x (suc i) = getD l i x

@@ -8,49 +8,49 @@ use mathlib.Core.List.{List, _∷_}
 use Prim.Native.Nat.{ℕ, _<_}
 use native.Mathlib.Omega.{arith}
 use Rattle.paxos.specs.Put.{put}
-use Rattle.paxos.specs.Paxos.{Seen, at, Event, asked, proposed, voted, History, _∈_, here, there, _⊆_, promise, Can, Steps, Run}
+use Rattle.paxos.specs.Paxos.{Can, Machine, Seen, at, Event, asked, proposed, voted, History, _∈_, here, there, _⊆_, promise, Steps, Run}
 use Rattle.paxos.proofs.PutLaws.{put-cases, put-same}
 use Rattle.paxos.proofs.QuorumLaws.{share}
 use Rattle.paxos.proofs.Member.{clash, new, as-in}
 use Rattle.paxos.proofs.Steps.{steps-one, steps-trans, steps-keep}
 use Rattle.paxos.proofs.Safe.{unique}
 use Rattle.views.specs.Hall.{View, with-term, with-vote, Gift, Hall, giving, turned, Leads, gave}
-use Rattle.views.specs.Fits.{Keeps, Owns, Made, Fits}
+use Rattle.views.specs.Faithful.{Keeps, Owns, Authored, Faithful}
 use Rattle.views.specs.Acts.{Act, ask, raise, give, make, take, say}
 use Rattle.views.proofs.KeepsLaws.{keeps-event, keeps-gift, keeps-raise, keeps-say, keeps-vote}
 
--- ---- who leads, and what it made
+-- ---- who leads, and what it proposed
 
 -- Who leads goes on leading.
 pub leads-on :
-    {C : Type 0} {N : ℕ} {G G′ : List (Gift C)} {t h : ℕ} {Q : ℕ → Bool} {seen : ℕ → ℕ → Seen C}
-    → G ⊆ G′ → Leads N G t h Q seen → Leads N G′ t h Q seen
+    {C : Type 0} {M : Machine C} {G G′ : List (Gift C)} {t h : ℕ} {Q : ℕ → Bool} {seen : ℕ → ℕ → Seen C}
+    → G ⊆ G′ → Leads M G t h Q seen → Leads M G′ t h Q seen
 leads-on sub x = record { most = x .most; all = λ g q. sub _ (x .all g q) }
 
-module _ {C : Type 0} {N : ℕ} {H : Hall C} (ok : Fits N H) where
+module _ {C : Type 0} {M : Machine C} {H : Hall C} (ok : Faithful M H) where
   -- One hub leads a term.
   pub one-leader :
       {t h g : ℕ} {P Q : ℕ → Bool} {x y : ℕ → ℕ → Seen C}
-      → Leads N (H .gifts) t h P x → Leads N (H .gifts) t g Q y → h ≡ g
+      → Leads M (H .gifts) t h P x → Leads M (H .gifts) t g Q y → h ≡ g
   one-leader {t} {h} {g} {P} {Q} {x} {y} a b =
-      let sh = share N P Q (a .most) (b .most) in
+      let sh = share (M .size) P Q (a .most) (b .most) in
       ok .once (sh .hub) t h g _ _ (a .all _ (sh .first)) (b .all _ (sh .second))
 
   -- What is proposed at the leader's term it holds.
   pub leader-holds :
-      {t h p : ℕ} {c : C} {Q : ℕ → Bool} {x : ℕ → ℕ → Seen C} → Leads N (H .gifts) t h Q x
+      {t h p : ℕ} {c : C} {Q : ℕ → Bool} {x : ℕ → ℕ → Seen C} → Leads M (H .gifts) t h Q x
       → t ≡ H .view h .term → proposed t p c ∈ H .past → H .view h .holds p ≡ at t c
   leader-holds {t} {h} {p} {c} l e m =
-      let x = ok .made t p c m in
+      let x = ok .authored t p c m in
       let same : x .hub ≡ h = one-leader (x .leads) l in
       let own : Owns (H .view h) t p c = rw same at (x .owns) in
       own .mine e
 
 -- ---- the machine's steps
 
-module _ {C : Type 0} {N : ℕ} {H : Hall C} (ok : Fits N H) where
+module _ {C : Type 0} {M : Machine C} {H : Hall C} (ok : Faithful M H) where
   -- Behind each action the machine takes zero or more steps.
-  pub act-steps : {J : Hall C} → Act N H J → Steps N (H .past) (J .past)
+  pub act-steps : {J : Hall C} → Act M H J → Steps M (H .past) (J .past)
   unfolding promise
   act-steps ask = steps-one Can.ask
   act-steps (raise {h} is lt) = let pr = (ok .hubs h) .promised in steps-one (Can.raise is (omega arith))
@@ -71,8 +71,8 @@ owns-raise lt o = let up = o .up in record { up = omega arith; mine = λ e. absu
 
 -- Having voted at its term, a hub owns what it owned: at one place and term nothing else is proposed.
 owns-vote :
-    {C : Type 0} {N : ℕ} {s : History C} {v : View C} {t p q : ℕ} {c d : C}
-    → Run N s → proposed (v .term) p c ∈ s → proposed t q d ∈ s → Owns v t q d → Owns (with-vote v p c) t q d
+    {C : Type 0} {M : Machine C} {s : History C} {v : View C} {t p q : ℕ} {c d : C}
+    → Run M s → proposed (v .term) p c ∈ s → proposed t q d ∈ s → Owns v t q d → Owns (with-vote v p c) t q d
 owns-vote {s} {v} {t} {p} {q} {c} {d} run m n o =
     record {
       up = o .up;
@@ -84,17 +84,17 @@ owns-vote {s} {v} {t} {p} {q} {c} {d} run m n o =
           q n (o .mine e);
     }
 
--- What was made stays made when more is given.
-made-given :
-    {C : Type 0} {N : ℕ} {G G′ : List (Gift C)} {view : ℕ → View C} {t p : ℕ} {c : C}
-    → G ⊆ G′ → Made N G view t p c → Made N G′ view t p c
-made-given sub x = record { hub = x .hub; backers = x .backers; seen = x .seen; leads = leads-on sub (x .leads); owns = x .owns }
+-- Whose a proposal is stays so when more is given.
+authored-given :
+    {C : Type 0} {M : Machine C} {G G′ : List (Gift C)} {view : ℕ → View C} {t p : ℕ} {c : C}
+    → G ⊆ G′ → Authored M G view t p c → Authored M G′ view t p c
+authored-given sub x = record { hub = x .hub; backers = x .backers; seen = x .seen; leads = leads-on sub (x .leads); owns = x .owns }
 
 -- And when hub `h` has another view that owns it if the one before did.
-made-turned :
-    {C : Type 0} {N : ℕ} {G : List (Gift C)} {t p : ℕ} {c : C} (view : ℕ → View C) (h : ℕ) (v : View C)
-    → (Owns (view h) t p c → Owns v t p c) → Made N G view t p c → Made N G (put view h v) t p c
-made-turned {t} {p} {c} view h v own x =
+authored-turned :
+    {C : Type 0} {M : Machine C} {G : List (Gift C)} {t p : ℕ} {c : C} (view : ℕ → View C) (h : ℕ) (v : View C)
+    → (Owns (view h) t p c → Owns v t p c) → Authored M G view t p c → Authored M G (put view h v) t p c
+authored-turned {t} {p} {c} view h v own x =
     record {
       hub = x .hub;
       backers = x .backers;
@@ -104,53 +104,53 @@ made-turned {t} {p} {c} view h v own x =
     }
 
 -- A run but for its last event is a run.
-run-before : {C : Type 0} {N : ℕ} {s : History C} {e : Event C} → Run N (e ∷ s) → Run N s
+run-before : {C : Type 0} {M : Machine C} {s : History C} {e : Event C} → Run M (e ∷ s) → Run M s
 run-before (Steps.next r k) = r
 
-module _ {C : Type 0} {N : ℕ} {H : Hall C} (ok : Fits N H) where
+module _ {C : Type 0} {M : Machine C} {H : Hall C} (ok : Faithful M H) where
   -- One hub has another view after its action: what is left to prove, the frame being done.
-  turned-fits :
+  turned-faithful :
       {s : History C} (h : ℕ) (v : View C)
-      → Act N H (turned H s h v)
-      → Keeps N s (H .gifts) h v
-      → ((g : ℕ) → g ≢ h → Keeps N s (H .gifts) g (H .view g))
-      → ((t p : ℕ) (c : C) → proposed t p c ∈ s → Made N (H .gifts) (put (H .view) h v) t p c)
-      → Fits N (turned H s h v)
-  turned-fits {s} h v a own others made =
+      → Act M H (turned H s h v)
+      → Keeps M s (H .gifts) h v
+      → ((g : ℕ) → g ≢ h → Keeps M s (H .gifts) g (H .view g))
+      → ((t p : ℕ) (c : C) → proposed t p c ∈ s → Authored M (H .gifts) (put (H .view) h v) t p c)
+      → Faithful M (turned H s h v)
+  turned-faithful {s} h v a own others proposals =
       record {
         run = steps-trans (ok .run) (act-steps ok a);
-        hubs = put-cases (Keeps N s (H .gifts)) (H .view) h v own others;
+        hubs = put-cases (Keeps M s (H .gifts)) (H .view) h v own others;
         given = λ g t l x m. steps-keep (act-steps ok a) _ (ok .given g t l x m);
         once = ok .once;
-        made = made;
+        authored = proposals;
       }
 
   -- A hub has given its report: what is left to prove is that it did so once.
-  given-fits :
+  given-faithful :
       (h l : ℕ)
-      → Act N H (giving H h l)
+      → Act M H (giving H h l)
       → ((g t m n : ℕ) (x y : ℕ → Seen C) → gave g t m x ∈ (giving H h l) .gifts → gave g t n y ∈ (giving H h l) .gifts → m ≡ n)
-      → Fits N (giving H h l)
-  given-fits h l a once =
+      → Faithful M (giving H h l)
+  given-faithful h l a once =
       record {
         run = steps-trans (ok .run) (act-steps ok a);
         hubs = λ g. keeps-gift (keeps-event (ok .hubs g) _ tt) h _ l _ (λ e. rw e (omega arith));
         given = λ g t m x z. new z (λ e. as-in (cc) here) (λ old. there (ok .given g t m x old));
         once = once;
-        made = λ t p c m. new m (λ e. clash (cc)) (λ old. made-given (λ a z. there z) (ok .made t p c old));
+        authored = λ t p c m. new m (λ e. clash (cc)) (λ old. authored-given (λ a z. there z) (ok .authored t p c old));
       }
 
   -- The leader has made a proposal, which is its own.
-  made-fits :
+  make-faithful :
       {h p : ℕ} {c : C} {Q : ℕ → Bool} {seen : ℕ → ℕ → Seen C}
-      → Leads N (H .gifts) (H .view h .term) h Q seen
-      → Act N H (turned H (voted h (H .view h .term) p c ∷ (proposed (H .view h .term) p c ∷ H .past)) h (with-vote (H .view h) p c))
-      → Fits N (turned H (voted h (H .view h .term) p c ∷ (proposed (H .view h .term) p c ∷ H .past)) h (with-vote (H .view h) p c))
-  made-fits {h} {p} {c} {Q} {seen} l a =
-      turned-fits h v a
+      → Leads M (H .gifts) (H .view h .term) h Q seen
+      → Act M H (turned H (voted h (H .view h .term) p c ∷ (proposed (H .view h .term) p c ∷ H .past)) h (with-vote (H .view h) p c))
+      → Faithful M (turned H (voted h (H .view h .term) p c ∷ (proposed (H .view h .term) p c ∷ H .past)) h (with-vote (H .view h) p c))
+  make-faithful {h} {p} {c} {Q} {seen} l a =
+      turned-faithful h v a
       (keeps-vote (keeps-event (ok .hubs h) _ tt) p c run here)
       (λ g ne. keeps-event (keeps-event (ok .hubs g) (proposed t p c) tt) _ ne)
-      (λ k q d n. new n (λ e. clash (cc)) (λ n′. new n′ now (λ old. made-turned _ h v (owns-vote run here (there old)) (ok .made k q d old))))
+      (λ k q d n. new n (λ e. clash (cc)) (λ n′. new n′ now (λ old. authored-turned _ h v (owns-vote run here (there old)) (ok .authored k q d old))))
     where
       t : ℕ
       t = H .view h .term
@@ -158,13 +158,13 @@ module _ {C : Type 0} {N : ℕ} {H : Hall C} (ok : Fits N H) where
       v : View C
       v = with-vote (H .view h) p c
 
-      run : Run N (proposed t p c ∷ H .past)
+      run : Run M (proposed t p c ∷ H .past)
       run = run-before (steps-trans (ok .run) (act-steps ok a))
 
       mine : Owns v t p c
       mine = record { up = omega arith; mine = λ e. put-same (H .view h .holds) p (at t c) }
 
-      now : {k q : ℕ} {d : C} → proposed k q d ≡ proposed t p c → Made N (H .gifts) (put (H .view) h v) k q d
+      now : {k q : ℕ} {d : C} → proposed k q d ≡ proposed t p c → Authored M (H .gifts) (put (H .view) h v) k q d
       now {k} {q} {d} e =
           let k= : k ≡ t = cc in
           let q= : q ≡ p = cc in
@@ -172,32 +172,32 @@ module _ {C : Type 0} {N : ℕ} {H : Hall C} (ok : Fits N H) where
           rw (k=, q=, d=) (record { hub = h; backers = Q; seen = seen; leads = l; owns = rw put-same mine })
 
   -- Every action keeps the invariant.
-  pub act-fits : {J : Hall C} → Act N H J → Fits N J
-  act-fits (ask {c}) =
+  pub act-faithful : {J : Hall C} → Act M H J → Faithful M J
+  act-faithful (ask {c}) =
       record {
         run = Steps.next (ok .run) Can.ask;
         hubs = λ h. keeps-event (ok .hubs h) (asked c) tt;
         given = λ h t l x m. there (ok .given h t l x m);
         once = ok .once;
-        made = λ t p d m. new m (λ e. clash (cc)) (ok .made t p d);
+        authored = λ t p d m. new m (λ e. clash (cc)) (ok .authored t p d);
       }
-  act-fits (raise {h} {t} is lt) =
-      turned-fits h _ (raise is lt)
+  act-faithful (raise {h} {t} is lt) =
+      turned-faithful h _ (raise is lt)
       (keeps-raise (ok .hubs h) t lt)
       (λ g ne. keeps-event (ok .hubs g) _ ne)
-      (λ k p c m. new m (λ e. clash (cc)) (λ old. made-turned _ h _ (owns-raise lt) (ok .made k p c old)))
-  act-fits (give {h} {l} is un) =
-      given-fits h l (give is un)
+      (λ k p c m. new m (λ e. clash (cc)) (λ old. authored-turned _ h _ (owns-raise lt) (ok .authored k p c old)))
+  act-faithful (give {h} {l} is un) =
+      given-faithful h l (give is un)
       (λ g t m n x y a b.
       new a
       (λ e. new b (λ e′. cc) (λ old. absurd (un n y (as-in (cc) old))))
       (λ old. new b (λ e. absurd (un m x (as-in (cc) old))) (ok .once g t m n x y old)))
-  act-fits (make Q seen is l pick un) = made-fits l (make Q seen is l pick un)
-  act-fits (take {h} {p} {c} is m) =
-      turned-fits h _ (take is m)
+  act-faithful (make Q seen is l pick un) = make-faithful l (make Q seen is l pick un)
+  act-faithful (take {h} {p} {c} is m) =
+      turned-faithful h _ (take is m)
       (keeps-vote (ok .hubs h) p c (ok .run) m)
       (λ g ne. keeps-event (ok .hubs g) _ ne)
-      (λ k q d n. new n (λ e. clash (cc)) (λ old. made-turned _ h _ (owns-vote (ok .run) m old) (ok .made k q d old)))
-  act-fits (say {h} w more all) =
-      turned-fits h _ (say w more all) (keeps-say (ok .hubs h) w all) (λ g ne. ok .hubs g)
-      (λ t p c m. made-turned _ h _ (λ o. record { up = o .up; mine = o .mine }) (ok .made t p c m))
+      (λ k q d n. new n (λ e. clash (cc)) (λ old. authored-turned _ h _ (owns-vote (ok .run) m old) (ok .authored k q d old)))
+  act-faithful (say {h} w more all) =
+      turned-faithful h _ (say w more all) (keeps-say (ok .hubs h) w all) (λ g ne. ok .hubs g)
+      (λ t p c m. authored-turned _ h _ (λ o. record { up = o .up; mine = o .mine }) (ok .authored t p c m))

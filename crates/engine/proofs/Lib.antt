@@ -1,0 +1,6 @@
+pub mod HubsLaws
+pub mod CountLaws
+pub mod RunsLaws
+pub mod Stands
+pub mod Upholds
+pub mod Theorems
