@@ -190,7 +190,8 @@ uint64_t kritnamon_write_message(const uint32_t *numbers, size_t count, const ui
 /* The kept parts of a state, which outlive a loss of power: its first KRITNAMON_STATE_KEPT bytes, and
  * the rows of the log, as many as KRITNAMON_STATE_LENGTH says. KRITNAMON_RESTART, kritnamon_chosen
  * and kritnamon_reported look at nothing else; the other bytes, which have to be there, may hold
- * anything. A state whose kept parts are stored already need not be stored again. */
+ * anything. A state whose kept parts are stored already need not be stored again; the first
+ * KRITNAMON_STATE_KEPT bytes tell, since the log never changes without its length or the ballot. */
 #define KRITNAMON_STATE_KEPT 16u
 
 /* The numbers KRITNAMON_STATE_SIZE, KRITNAMON_PLACES and KRITNAMON_TEXT_MOST, as this library has

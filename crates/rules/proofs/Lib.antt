@@ -14,3 +14,4 @@ pub mod Theorems
 pub mod StepLaws
 pub mod Computed
 pub mod Cases
+pub mod ShowsLaws

@@ -135,7 +135,7 @@ unfolding happens restart
 restart-takes-effect w s = refl
 
 -- A message of a higher term: no rule changes the term once more.
-raised-term :
+pub raised-term :
     (w : Who) (s : State) (t from : ℕ) (body : Body) → (let r = raised s t in afterRaise r (rule w r from body) .state .kept .term ≡ t)
 unfolding raised withTerm afterRaise rule heardYes heardAppend heardEnd taken
 raised-term w s t from (vote-request last ballot) = refl

@@ -93,6 +93,14 @@ NextIsLegal = (w : Who) (s : State) (o : Occasion) → Meets w s o → legalStat
 abbrev pub NothingFalls : Type 0
 NothingFalls = (w : Who) (s : State) (o : Occasion) → Meets w s o → Grows (s .kept) (happens w s o .state .kept)
 
+-- What is kept changes only where term, ballot, chosen or the log's length does: who compares these knows whether there is anything to store.
+abbrev pub ChangeShows : Type 0
+ChangeShows =
+    (w : Who) (s : State) (o : Occasion) → Meets w s o
+    → let k = s .kept in
+    let next = happens w s o .state .kept in
+    next .term ≡ k .term → next .ballot ≡ k .ballot → length (next .log) ≡ length (k .log) → next .log ≡ k .log
+
 -- A written message is legal, the replies to stale messages too.
 abbrev pub MessageIsLegal : Type 0
 MessageIsLegal =
@@ -116,7 +124,7 @@ abbrev pub ThirteenExactly : Type 0
 ThirteenExactly =
     (w : Who) (s : State) (m : Message) → Meets w s (to-receive m) → (happens w s (to-receive m) .outcome ≡ nothing-new) ↔ NothingNew w s m
 
--- The place that a leader takes as chosen is what 01 says, whatever is confirmed.
+-- The place that a leader takes as chosen is the largest that a majority has confirmed (rule R25), whatever is confirmed.
 abbrev pub MajorityPlaceIsLargest : Type 0
 MajorityPlaceIsLargest = (n : ℕ) (confirmed : List ℕ) → LargestConfirmed n confirmed (majorityPlace n confirmed)
 
@@ -125,7 +133,7 @@ abbrev pub MajorityPlaceInLog : Type 0
 MajorityPlaceInLog =
     (w : Who) (s : State) (confirmed : List ℕ) → legalState w s ≡ true → s .lost ≡ leader confirmed → majorityPlace (w .size) confirmed ≤ len s
 
--- ---- an event takes effect where 01 permits it
+-- ---- an event takes effect where the rules permit it
 
 -- A start below the last term at a hub that does not lead.
 abbrev pub StartTakesEffect : Type 0
