@@ -1,5 +1,5 @@
 /* Three hubs elect a leader and choose a command; messages are passed by hand. */
-#include "kritnamon.h"
+#include "kritnamon_inline.h"
 
 #include <stdio.h>
 
@@ -33,7 +33,7 @@ int main(void)
 {
     uint8_t buzz[KRITNAMON_COMMAND_SIZE];
 
-    kritnamon_write_command(3, KRITNAMON_BUZZ, 250, 0x3f000000u /* 0.5f */, 0, buzz, sizeof buzz);
+    kritnamon_write_command(3, KRITNAMON_BUZZ, 250, kritnamon_gain_bits(0.5f), 0, buzz, sizeof buzz);
     take(1, KRITNAMON_START, 0, buzz, 0);
     pass(1, 2); /* hub 1 asks for votes */
     pass(2, 1); /* hub 2 gives its vote: with two of three, hub 1 leads */

@@ -3,30 +3,22 @@
 #include <string.h>
 
 #define NUMBER_SIZE 4u
-#define KEPT_HEAD   (KRITNAMON_STATE_LENGTH + NUMBER_SIZE) /* term, ballot, chosen, length: the first bytes of a state */
-#define NO_STATE    0xff                                   /* bytes of this are no hub's state */
+#define NO_STATE    0xff /* bytes of this are no hub's state */
 
 /* The input of an event that has none. */
 static const uint8_t nothing[1];
 
 /* ---- What stands in a state. */
 
-static uint32_t number_at(const struct hub *hub, size_t offset)
-{
-    const uint8_t *bytes = hub->state + offset;
-
-    return (uint32_t)bytes[0] << 24 | (uint32_t)bytes[1] << 16 | (uint32_t)bytes[2] << 8 | bytes[3];
-}
-
 static uint32_t log_length(const struct hub *hub)
 {
-    return number_at(hub, KRITNAMON_STATE_LENGTH);
+    return kritnamon_number(hub->state + KRITNAMON_STATE_LENGTH);
 }
 
 /* How many places a peer has confirmed to this leader. */
 static uint32_t confirmed(const struct hub *hub, uint32_t peer)
 {
-    return number_at(hub, KRITNAMON_STATE_CONFIRMED + NUMBER_SIZE * (peer - 1));
+    return kritnamon_number(hub->state + KRITNAMON_STATE_CONFIRMED + NUMBER_SIZE * (peer - 1));
 }
 
 static uint32_t reported(const struct hub *hub)
@@ -41,7 +33,7 @@ bool hub_leads(const struct hub *hub)
 
 uint32_t hub_term(const struct hub *hub)
 {
-    return number_at(hub, KRITNAMON_STATE_TERM);
+    return kritnamon_number(hub->state + KRITNAMON_STATE_TERM);
 }
 
 /* ---- The motors. */
@@ -117,11 +109,11 @@ static void post(const struct hub *hub, size_t length)
 
 /* The order is what safety rests on: nobody may hear of a state, and no motor move by it, before it is stored.
  * A restart looks at term, ballot, chosen, length and the log, so these have to be stored; the log never changes without its length or the
- * ballot, so the first four tell whether there is anything new. Most calls have nothing: neither a send nor a refusal changes them, nor a
+ * ballot (docs/STORAGE.md), so the first four tell whether there is anything new. Most calls have nothing: neither a send nor a refusal changes them, nor a
  * vote or a confirmed length that is merely counted. */
 static uint32_t take(struct hub *hub, uint32_t event, uint32_t a, uint32_t b, const uint8_t *input, size_t length)
 {
-    uint8_t stored[KEPT_HEAD];
+    uint8_t stored[KRITNAMON_STATE_KEPT]; /* term, ballot, chosen, length */
     uint64_t answer;
 
     memcpy(stored, hub->state, sizeof stored);

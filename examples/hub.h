@@ -3,7 +3,7 @@
 #ifndef HUB_H
 #define HUB_H
 
-#include "kritnamon.h"
+#include "kritnamon_inline.h"
 
 #include <stdbool.h>
 
