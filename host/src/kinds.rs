@@ -107,7 +107,7 @@ impl Rising {
     }
 }
 
-/// The outcome of a call. The number is document 01's, the name that of include/kritnamon.h.
+/// The outcome of a call. The number is rule R32's, the name that of include/kritnamon.h.
 #[derive(Clone, Copy, Debug, PartialEq, Eq)]
 #[repr(u32)]
 pub enum Outcome {
@@ -160,12 +160,12 @@ impl Outcome {
         Outcome::NothingNew,
     ];
 
-    /// The outcome of document 01's number; none where there is no such number.
+    /// The outcome of rule R32's number; none where there is no such number.
     pub fn numbered(number: u32) -> Option<Outcome> {
         Outcome::ALL.get(number as usize).copied()
     }
 
-    /// Document 01's number.
+    /// The number of rule R32.
     pub fn number(self) -> u32 {
         self as u32
     }

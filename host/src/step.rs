@@ -1,5 +1,5 @@
 //! One step of one hub: from its state and an event to the next state, an outcome and at most one message.
-//! All refusals are tested before anything is changed, in the order of document 01's table.
+//! All refusals are tested before anything is changed, in the order of rule R32's table.
 
 use crate::command;
 use crate::kinds::{Answer, Group, Hub, LIMIT, OUTPUT_LEAST, Outcome, Place, Term};

@@ -1,4 +1,4 @@
-//! 01's twelve cases from the test bench, by number, and its whole append.
+//! The twelve cases of rule R39, by number, and the whole append of rule R28.
 
 mod common;
 use common::*;

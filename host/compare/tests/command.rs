@@ -36,7 +36,7 @@ fn compare_read(bytes: &[u8]) {
     compare_read_into(bytes, BEFORE.len());
 }
 
-/// Numbers at and next to every edge that document 01 names.
+/// Numbers at and next to every edge that the rules name.
 const MOTORS: [u32; 6] = [0, 1, 2, 64, 65, 65_535];
 const KINDS: [u32; 5] = [0, 1, 2, 3, 65_535];
 const DURATIONS: [i32; 8] = [i32::MIN, -1, 0, 1, 19, 600_000, 600_001, i32::MAX];

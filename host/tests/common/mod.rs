@@ -12,7 +12,7 @@ pub const OUT_SIZE: usize = 16_384;
 /// What the output holds before each call.
 const FILL: u8 = 0xa5;
 
-/// 01's command: motor 3, buzz, 250 ms, gain 0.5.
+/// The command of rule R28's append: motor 3, buzz, 250 ms, gain 0.5.
 pub const HEX: &str = "00030001000000fa3f00000000000000";
 
 pub const APPEND: &str = "type=append\nterm=1\nfrom=1\nto=2\nprev=0\nprevterm=0\nchosen=0\ncount=1\n\
@@ -142,7 +142,7 @@ pub fn refused(after: &After, outcome: u32) {
     assert_eq!((after.outcome, after.text.as_str()), (outcome, ""));
 }
 
-// ---- a second opinion on legality, sentence by sentence from 01
+// ---- a second opinion on legality, sentence by sentence from the rules
 
 pub fn command_legal(command: &Command) -> bool {
     let part = |at: usize| number_at(command, at);

@@ -1,4 +1,4 @@
-//! Broken hubs: the independent program with one rule of document 01 broken. The program itself stays as it is; what a variant changes
+//! Broken hubs: the independent program with one rule broken. The program itself stays as it is; what a variant changes
 //! lies around its step: the state or the message on the way in, the state or the text on the way out. Each rule is broken as
 //! a program that never knew of it would break it, so states stay legal and the hub goes on.
 

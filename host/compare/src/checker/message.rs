@@ -1,10 +1,10 @@
-//! A message from its text, by document 01. The reading is this module's own: what watches a run leans on neither of the programs that
+//! A message from its text, by docs/RULES.md. The reading is this module's own: what watches a run leans on neither of the programs that
 //! take the steps.
 
 use image::{Command, Row};
 use independent::{Hub, Term};
 
-/// The types of messages, in document 01's order.
+/// The types of messages, in the order of rule R28.
 #[derive(Clone, Copy, Debug, PartialEq, Eq)]
 pub enum Kind {
     VoteRequest,

@@ -1,4 +1,4 @@
-//! MultiPaxos as document 01 gives it: per hub a promised ballot; a set of votes; at most one proposed command per ballot and place;
+//! MultiPaxos as rule R36 has it: per hub a promised ballot; a set of votes; at most one proposed command per ballot and place;
 //! reports at a promised ballot. The machine takes the steps that it is asked to take, and refuses with a name those that it cannot take.
 //! It knows nothing of hubs, logs or messages: `checker` says which steps a hub's step stands for.
 

@@ -8,7 +8,7 @@ use image::{
     STATE_SIZE, VOTERS_AT, confirmed_at, lost_parts, number_at, put_number,
 };
 
-/// Numbers at and next to every edge that document 01 names.
+/// Numbers at and next to every edge that the rules name.
 pub const EDGES: [u32; 12] = [0, 1, 2, 3, 7, 8, 255, 256, 257, 65_536, u32::MAX - 1, u32::MAX];
 
 /// Where the numbers of a state's head stand: term, ballot, chosen, length, gathered, and the confirmed lengths.
