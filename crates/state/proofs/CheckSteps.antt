@@ -1,16 +1,16 @@
 -- The check, as the code's tests give it: each scan stops, goes on or has come to its end, and the table's tests in their order.
 -- Over plain variables, so that a function's proof only names a law. Assumes nothing.
-use Prim.Native.Nat.{ℕ, zero, suc, _+_, _*_, _≤_, _<_}
+use Prim.Native.Nat.{ℕ, zero, suc, _+_, _-_, _*_, _≤_, _<_}
 use native.Mathlib.Omega.{arith}
 use native.Mathlib.Nat.{add-zero}
 use native.Mathlib.Numerals.{add-one}
-use mathlib.Core.Path.{_≡_, refl, sym, _∙_}
-use mathlib.Core.Bool.{Bool, true, false, false≢true, not, _&&_, _||_}
-use mathlib.Core.List.{List, [], _∷_}
+use mathlib.Core.Path.{_≡_, refl, sym, _∙_, ap}
+use mathlib.Core.Bool.{Bool, true, false, false≢true, not, _&&_, _||_, and-false}
+use mathlib.Core.List.{List, [], _∷_, _++_}
 use borrow.Author.Tests.{eqb-true, leb-true}
 use lib.Dec.{eqb, leb, ltb}
-use lib.ListN.{length, drop, getD}
-use lib.Seq.{drop-drop, drop-cons}
+use lib.ListN.{length, take, drop, getD, take-append-drop, length-drop}
+use lib.Seq.{take-all, drop-drop, drop-cons}
 use Rattle.kinds.specs.Sizes.{Who, between, hubs-most, limit}
 use Rattle.command.specs.Words.{part, wordAt}
 use Rattle.command.specs.Command.{command-size, legalCommand, commandOf}
@@ -100,6 +100,43 @@ zeros-goes l i clean h = rw (drop-cons l i 0 h, add-one) (and-then clean (eqb (g
 pub zeros-ends : (l : List ℕ) (i : ℕ) (clean : Bool) → length l ≤ i → (clean && zeros (drop i l)) ≡ clean
 unfolding zeros
 zeros-ends l i clean h = rw (all-ends (λ b. eqb b 0) l i h) (and-alone clean)
+
+shuffle : (c p x q y : Bool) → (c && ((p && x) && (q && y))) ≡ ((c && (p && q)) && (x && y))
+shuffle false p x q y = refl
+shuffle true false x q y = refl
+shuffle true true false q y = sym (and-false q)
+shuffle true true true q y = refl
+
+-- Two lists at once, one byte more of each.
+pub pair-goes : (a b : List ℕ) (i : ℕ) (clean : Bool) →
+    i < length a →
+    i < length b →
+    (clean && (zeros (drop i a) && zeros (drop i b)))
+    ≡ ((clean && (eqb (getD a i 0) 0 && eqb (getD b i 0) 0)) && (zeros (drop (i + 1) a) && zeros (drop (i + 1) b)))
+unfolding zeros all
+pair-goes a b i clean h g =
+    rw (drop-cons a i 0 h, drop-cons b i 0 g, add-one)
+    (shuffle clean (eqb (getD a i 0) 0) (zeros (drop (suc i) a)) (eqb (getD b i 0) 0) (zeros (drop (suc i) b)))
+
+-- The first list is passed.
+pub pair-ends : (a b : List ℕ) (i : ℕ) (clean : Bool) → length a ≤ i → (clean && (zeros (drop i a) && zeros (drop i b))) ≡ (clean && zeros (drop i b))
+unfolding zeros
+pair-ends a b i clean h = rw (all-ends (λ b. eqb b 0) a i h)
+
+zeros-append : (a b : List ℕ) → zeros (a ++ b) ≡ (zeros a && zeros b)
+unfolding zeros all
+zeros-append [] b = refl
+zeros-append (x ∷ a) b = rw (zeros-append a b) (and-then (eqb x 0) (zeros a) (zeros b))
+
+-- Two parts, one behind the other, as a slice is cut in two.
+pub zeros-split : (l : List ℕ) (from m : ℕ) → from ≤ m →
+    (zeros (take (m - from) (drop from l)) && zeros (take (length l - m) (drop m l))) ≡ zeros (drop from l)
+zeros-split l from m h =
+    let n = m - from in
+    let e : m ≡ from + n = omega arith in
+    let rest : take (length l - m) (drop m l) ≡ drop m l = take-all (length l - m) (drop m l) (omega (arith, length-drop m l)) in
+    let cut : drop m l ≡ drop n (drop from l) = ap (λ (k : ℕ). drop k l) e ∙ sym (drop-drop n from l) in
+    rw (rest, cut) (sym (zeros-append (take n (drop from l)) (drop n (drop from l))) ∙ rw take-append-drop)
 
 -- ---- the table
 

@@ -1,7 +1,7 @@
 // A hub's state in lent bytes: its limit and size, the head as a struct by value, and whether bytes are a legal state's image.
 // The layout is docs/LAYOUT.md's: a head of 56 bytes, then a row of 20 bytes for each place of the limit.
 ghost use mathlib.Core.Path.{_≡_};
-ghost use mathlib.Core.Bool.{true, false, cond, not};
+ghost use mathlib.Core.Bool.{true, false, cond, not, _&&_};
 ghost use mathlib.Core.List.{map, _++_};
 ghost use Prim.Native.Nat.{_+_, _-_, _*_, _≤_};
 ghost use lib.Dec.{leb, eqb};
@@ -10,6 +10,7 @@ ghost use lib.Seq.{sets};
 ghost use Rattle.kinds.specs.Of.{place, term};
 ghost use Rattle.kinds.specs.Sizes.{hubs-most, limit};
 ghost use Rattle.command.specs.Words.{part, word, wordAt};
+ghost use Rattle.command.specs.Answers.{kindLimits};
 ghost use Rattle.state.specs.Legal.{all, count};
 ghost use Rattle.state.specs.Image.{state-size, bytesOf, flags, wordsIn, readState, readKept};
 ghost use Rattle.state.specs.Head.{headIn, isFlag, placeBytes, numberBytes, bytesOfHead, keptHead, isNone, votersIn, confirmedIn, followerHead, candidateHead, leaderHead, roleHead};
@@ -373,8 +374,8 @@ fn is_legal_head(size: u32, own: u32, s: &[u8]) -> bool
 // ---- the check of the table
 
 // n log rows from a place on: entry terms at least 1, never falling, at most the ballot; commands legal.
-fn is_log(s: &[u8], from: usize, n: Place, ballot: Term) -> bool
-    requires { ⌜ from + n .0 * 20 ≤ length (now s) ⌝ }
+fn are_entries(limits: &[u32; 12], s: &[u8], from: usize, n: Place, ballot: Term) -> bool
+    requires { ⌜ (now limits ≡ kindLimits) × (from + n .0 * 20 ≤ length (now s)) ⌝ }
     ensures { λ r. ⌜ r ≡ legalLog 1 (ballot .0) (n .0) (drop from (now (s .entry))) ⌝ }
 {
     let most = ballot.number();
@@ -383,7 +384,7 @@ fn is_log(s: &[u8], from: usize, n: Place, ballot: Term) -> bool
     let mut left = n.number();
     while 0 < left {
         let t = command::get32(s, at);
-        if !((low <= t) & ((t <= most) & command::is_legal_at(s, at + 4))) {
+        if !((low <= t) & ((t <= most) & command::is_legal_in(limits, s, at + 4))) {
             return false;
         }
         low = t;
@@ -394,8 +395,8 @@ fn is_log(s: &[u8], from: usize, n: Place, ballot: Term) -> bool
 }
 
 // n gathered rows from a place on: ballots at least 1 and below the term; commands legal.
-fn is_gathered(s: &[u8], from: usize, n: Place, term: Term) -> bool
-    requires { ⌜ from + n .0 * 20 ≤ length (now s) ⌝ }
+fn are_gathered(limits: &[u32; 12], s: &[u8], from: usize, n: Place, term: Term) -> bool
+    requires { ⌜ (now limits ≡ kindLimits) × (from + n .0 * 20 ≤ length (now s)) ⌝ }
     ensures { λ r. ⌜ r ≡ legalGathered (term .0) (n .0) (drop from (now (s .entry))) ⌝ }
 {
     let above = term.number();
@@ -403,7 +404,7 @@ fn is_gathered(s: &[u8], from: usize, n: Place, term: Term) -> bool
     let mut left = n.number();
     while 0 < left {
         let b = command::get32(s, at);
-        if !((1 <= b) & ((b < above) & command::is_legal_at(s, at + 4))) {
+        if !((1 <= b) & ((b < above) & command::is_legal_in(limits, s, at + 4))) {
             return false;
         }
         at += ROW;
@@ -412,17 +413,52 @@ fn is_gathered(s: &[u8], from: usize, n: Place, term: Term) -> bool
     true
 }
 
-// Nothing but zeros from a place on.
-fn is_zero(s: &[u8], from: usize) -> bool
-    ensures { λ r. ⌜ r ≡ zeros (drop from (now (s .entry))) ⌝ }
+// The same, with the limits at hand.
+fn is_log(s: &[u8], from: usize, n: Place, ballot: Term) -> bool
+    requires { ⌜ from + n .0 * 20 ≤ length (now s) ⌝ }
+    ensures { λ r. ⌜ r ≡ legalLog 1 (ballot .0) (n .0) (drop from (now (s .entry))) ⌝ }
+{
+    let limits = command::limits();
+    are_entries(&limits, s, from, n, ballot)
+}
+
+// The same, with the limits at hand.
+fn is_gathered(s: &[u8], from: usize, n: Place, term: Term) -> bool
+    requires { ⌜ from + n .0 * 20 ≤ length (now s) ⌝ }
+    ensures { λ r. ⌜ r ≡ legalGathered (term .0) (n .0) (drop from (now (s .entry))) ⌝ }
+{
+    let limits = command::limits();
+    are_gathered(&limits, s, from, n, term)
+}
+
+// Nothing but zeros in both, the second at least as long as the first.
+fn are_zero(a: &[u8], b: &[u8]) -> bool
+    requires { ⌜ length (now a) ≤ length (now b) ⌝ }
+    ensures { λ r. ⌜ r ≡ (zeros (now (a .entry)) && zeros (now (b .entry))) ⌝ }
 {
     let mut clean = true;
-    let mut i = from;
-    while i < s.len() {
-        clean = clean & (s[i] == 0);
+    let mut i = 0;
+    while i < a.len() {
+        clean = clean & ((a[i] == 0) & (b[i] == 0));
+        i += 1;
+    }
+    while i < b.len() {
+        clean = clean & (b[i] == 0);
         i += 1;
     }
     clean
+}
+
+// Nothing but zeros from a place on: the two halves at once.
+fn is_zero(s: &[u8], from: usize) -> bool
+    ensures { λ r. ⌜ r ≡ zeros (drop from (now (s .entry))) ⌝ }
+{
+    let end = s.len();
+    if end <= from {
+        return true;
+    }
+    let middle = from + (end - from) / 2;
+    are_zero(&s[from..middle], &s[middle..])
 }
 
 // All tests of the table.
