@@ -95,6 +95,7 @@ legal-numbers motor kind x a b = rw (isZero-signed x, isDuration-signed x)
 
 -- ---- within the limits of its kind
 
+-- At most zero is zero.
 zero-most : (x : ℕ) → leb x 0 ≡ eqb x 0
 zero-most zero = refl
 zero-most (suc x) = lt-leb (suc x) 0 (omega arith) ∙ sym (ne-eqb (suc x) 0 (λ e. omega arith))

@@ -156,20 +156,9 @@ pub fn is_legal_at(s: &[u8], at: usize) -> bool
 pub fn limits() -> [u32; 12]
     ensures { λ r. ⌜ r ≡ kindLimits ⌝ }
 {
-    [
-        0,
-        0,
-        0,
-        0,
-        1,
-        DURATION_MOST,
-        GAIN_MOST,
-        0,
-        1,
-        DURATION_MOST,
-        GAIN_MOST,
-        GAIN_MOST,
-    ]
+    let d = DURATION_MOST;
+    let g = GAIN_MOST;
+    [0, 0, 0, 0, 1, d, g, 0, 1, d, g, g]
 }
 
 // Whether the command of these numbers is within the limits of its kind.
@@ -186,7 +175,7 @@ fn is_within(limits: &[u32; 12], n: Numbers) -> bool
     ((1 <= n.motor) & (n.motor <= 64)) & (timed & ((n.a <= limits[k + 2]) & (n.b <= limits[k + 3])))
 }
 
-// Whether the 16 bytes from a place on are a legal command, with the limits lent: many of them are tested faster so.
+// Whether the 16 bytes from a place on are a legal command, with the limits lent: a loop over many tests them faster so.
 pub fn is_legal_in(limits: &[u32; 12], s: &[u8], at: usize) -> bool
     requires { ⌜ (now limits ≡ kindLimits) × (at + 16 ≤ length (now s)) ⌝ }
     ensures { λ r. ⌜ r ≡ legalCommand (commandOf (part at command-size (now (s .entry)))) ⌝ }

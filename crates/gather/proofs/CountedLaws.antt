@@ -13,16 +13,17 @@ use Rattle.kinds.specs.Sizes.{Who, hubs-most, majority, limit}
 use Rattle.state.specs.declared.Head.{Head}
 use Rattle.state.specs.State.{Kept, Pair, candidate, State}
 use Rattle.state.specs.Legal.{count}
-use Rattle.state.specs.Image.{head-size, row-size, roleOf, votersOf, gatheredOf, confirmedOf, image}
+use Rattle.rows.specs.Rows.{row-size, entryRow}
+use Rattle.state.specs.Image.{head-size, roleOf, votersOf, gatheredOf, confirmedOf, image}
 use Rattle.state.specs.Head.{bytesOfHead, headOf}
-use Rattle.state.specs.Table.{entryRow, pairRow, rowsOf, table}
-use Rattle.state.proofs.ListLaws.{sets-front}
+use Rattle.state.specs.Table.{pairRow, rowsOf, table}
+use Rattle.rows.proofs.ListLaws.{sets-front}
 use Rattle.state.proofs.HeadLaws.{bytesOfHead-length}
 use Rattle.state.proofs.ImageLaws.{image-is}
 use Rattle.rules.specs.Events.{leads}
 use Rattle.rules.specs.Receive.{joined, counted}
 use Rattle.step.specs.Heads.{leading}
-use Rattle.step.specs.Words.{renumbered}
+use Rattle.rows.specs.Words.{renumbered}
 use Rattle.step.proofs.LeadLaws.{leading-head, lead-written}
 use Rattle.gather.specs.Yes.{withVoter, countedInto}
 

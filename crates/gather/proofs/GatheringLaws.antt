@@ -20,11 +20,11 @@ use Rattle.message.specs.Text.{entriesText}
 use Rattle.message.specs.Walk.{entryLine, entriesFrom, Lie}
 use Rattle.message.specs.Found.{FoundEntry}
 use Rattle.message.proofs.WalkLaws.{stood-on, stood-at}
-use Rattle.state.specs.Image.{row-size, row}
-use Rattle.step.specs.declared.Words.{Words}
-use Rattle.step.specs.Words.{rowWords}
+use Rattle.rows.specs.Rows.{row-size, row}
+use Rattle.rows.specs.declared.Words.{Words}
+use Rattle.rows.specs.Words.{rowWords}
 use Rattle.step.specs.Gather.{gatheredInto}
-use Rattle.step.proofs.WordsLaws.{row-words}
+use Rattle.rows.proofs.WordsLaws.{row-words}
 use Rattle.gather.specs.Yes.{rowGathered}
 
 -- ---- one row

@@ -15,15 +15,16 @@ use Rattle.message.specs.Walk.{entriesFrom}
 use Rattle.state.specs.declared.Head.{Head}
 use Rattle.state.specs.State.{Kept, Pair, Lost, follower, candidate, leader, State}
 use Rattle.state.specs.Legal.{all, legalPair, legalLost, legalState}
-use Rattle.state.specs.Image.{head-size, row-size, roleOf, votersOf, gatheredOf, confirmedOf, image, stateIn}
+use Rattle.rows.specs.Rows.{row-size, Row, entryRow}
+use Rattle.state.specs.Image.{head-size, roleOf, votersOf, gatheredOf, confirmedOf, image, stateIn}
 use Rattle.state.specs.Head.{headIn, bytesOfHead, headOf}
-use Rattle.state.specs.Table.{Row, entryRow, pairRow, rowsOf, table}
+use Rattle.state.specs.Table.{pairRow, rowsOf, table}
 use Rattle.state.proofs.HeadLaws.{bytesOfHead-length}
 use Rattle.state.proofs.ImageLaws.{image-is}
 use Rattle.rules.specs.Events.{isCandidate}
 use Rattle.rules.specs.Receive.{idle, effect, gather, counted, heardYes, contradicts}
-use Rattle.rules.proofs.BoolLaws.{and-first, and-second, or-first}
-use Rattle.rules.proofs.LegalLaws.{legalCandidate-is, legalState-kept, legalState-lost}
+use Rattle.rows.proofs.BoolLaws.{and-first, and-second, or-first}
+use Rattle.state.proofs.LegalLaws.{legalCandidate-is, legalState-kept, legalState-lost}
 use Rattle.rules.proofs.MessageLaws.{IsYes, yes-is}
 use Rattle.rules.proofs.GatherLaws.{gather-length}
 use Rattle.step.specs.Promise.{Ready, Ruled}

@@ -11,11 +11,12 @@ use Rattle.kinds.specs.Sizes.{Who, hubs-most, majority, limit}
 use Rattle.command.specs.Words.{wordAt}
 use Rattle.state.specs.declared.Head.{Head}
 use Rattle.state.specs.Legal.{count}
-use Rattle.state.specs.Image.{head-size, row-size, state-size}
+use Rattle.rows.specs.Rows.{row-size}
+use Rattle.state.specs.Image.{head-size, state-size}
 use Rattle.state.specs.Head.{bytesOfHead}
 use Rattle.step.specs.Promise.{HearsYes}
 use Rattle.step.specs.Heads.{leading}
-use Rattle.step.specs.Words.{renumbered}
+use Rattle.rows.specs.Words.{renumbered}
 
 -- What holds where a vote-yes is heard, with whatever last it came.
 pub record Hears (w : Who) (l : List ℕ) (from ballot count : ℕ) (s : List ℕ) : Type 0 where

@@ -4,19 +4,20 @@ ghost use mathlib.Core.Bool.{false};
 ghost use Prim.Native.Nat.{_+_, _-_, _*_, _≤_, max};
 ghost use lib.ListN.{length, drop, getD};
 ghost use Rattle.message.specs.Walk.{entriesFrom, Lie};
-ghost use Rattle.state.specs.Image.{row-size, stateIn};
+ghost use Rattle.rows.specs.Rows.{row-size};
+ghost use Rattle.state.specs.Image.{stateIn};
 ghost use Rattle.rules.specs.Receive.{heardYes};
 ghost use Rattle.step.specs.Promise.{whoIn, Ruled};
-ghost use Rattle.step.specs.Words.{rowWords};
+ghost use Rattle.rows.specs.Words.{rowWords};
 ghost use Rattle.step.specs.Gather.{gatheredInto};
 ghost use Rattle.gather.specs.Yes.{Hears, Counts, rowGathered, withVoter, countedInto};
 use kinds::Hub;
 use kinds::Place;
 use kinds::Term;
 use message::EntryAt;
+use rows::Words;
 use state::Head;
 use step::Group;
-use step::Words;
 
 // The bytes of a row.
 const ROW: usize = 20;
@@ -38,7 +39,7 @@ fn gather_row(state: &mut [u8], at: usize, held: bool, ballot: Term, c: Words)
     if held & !there.below(ballot) {
         return;
     }
-    step::put_row(state, at, ballot.number(), c);
+    rows::put_row(state, at, ballot.number(), c);
 }
 
 // Gathers so many entries of this ballot, whose lines stand in the text, into the rows from a place on, of which so many are held.
@@ -114,13 +115,13 @@ fn count_votes(g: Group, h: Head, state: &mut [u8])
     ensures { λ _. ⌜ now (state .exit) ≡ countedInto (whoIn g) h (now (state .entry)) ⌝ }
 {
     let voters = h.voters;
-    if state::count_voters(voters) < g.size / 2 + 1 {
-        state::write_head(state, h);
+    if head::count_voters(voters) < g.size / 2 + 1 {
+        head::write_head(state, h);
         return;
     }
     let n = h.gathered.number();
-    step::renumber(state, step::row_at(h.length.number()), n, h.term.number());
-    state::write_head(state, step::lead(h, g.own, n));
+    rows::renumber(state, head::row_at(h.length.number()), n, h.term.number());
+    head::write_head(state, step::lead(h, g.own, n));
 }
 
 // ---- vote-yes
@@ -138,14 +139,14 @@ pub fn hear_yes(
     requires { ⌜ Hears (whoIn g) (now state) (from .0) (ballot .0) count (drop at (now text)) ⌝ }
     ensures { λ r. ⌜ Ruled (heardYes (whoIn g) (stateIn (now (state .entry))) (from .0) (ballot .0) (entriesFrom count (drop at (now (text .entry))))) (now (state .entry)) r (now (state .exit)) ⌝ }
 {
-    let h = state::read_head(state);
+    let h = head::read_head(state);
     if h.role != CANDIDATE {
         return false;
     }
     if has_voted(h, from) {
         return false;
     }
-    let first = step::row_at(h.length.number());
+    let first = head::row_at(h.length.number());
     gather_in(state, first, h.gathered.number(), ballot, count, text, at);
     count_votes(g, add_voter(h, from, count), state);
     true

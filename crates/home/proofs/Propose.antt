@@ -16,8 +16,9 @@ use Rattle.state.specs.State.{Kept, Lost, follower, candidate, leader, State}
 use Rattle.state.specs.Legal.{legalLost}
 use Rattle.rules.specs.Outcome.{Next, done}
 use Rattle.rules.specs.Events.{leads, withEntry, proposeLeading, propose}
-use Rattle.rules.proofs.BoolLaws.{cond-either}
-use Rattle.rules.proofs.LegalLaws.{IsWho, IsLeader, legalLeader-is}
+use Rattle.rows.proofs.BoolLaws.{cond-either}
+use Rattle.state.proofs.LegalLaws.{IsLeader, legalLeader-is}
+use Rattle.rules.proofs.LegalLaws.{IsWho}
 use Rattle.paxos.specs.Put.{put}
 use Rattle.paxos.specs.Paxos.{at, client's, asked, _∈_}
 use Rattle.paxos.proofs.Member.{clash}

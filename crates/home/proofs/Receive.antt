@@ -33,9 +33,10 @@ use Rattle.rules.specs.Receive.{
   atOwnTerm,
   receive,
 }
-use Rattle.rules.proofs.BoolLaws.{or-first, or-second, or-either, cond-either}
+use Rattle.rows.proofs.BoolLaws.{or-first, or-second, or-either, cond-either}
 use Rattle.kinds.proofs.BetweenLaws.{between-true}
-use Rattle.rules.proofs.LegalLaws.{IsWho, legalMessage-is, legalCandidate-is, legalLeader-is}
+use Rattle.state.proofs.LegalLaws.{legalCandidate-is, legalLeader-is}
+use Rattle.rules.proofs.LegalLaws.{IsWho, legalMessage-is}
 use Rattle.rules.proofs.MessageLaws.{append-is}
 use Rattle.paxos.proofs.Member.{clash}
 use Rattle.views.specs.Hall.{Hall}

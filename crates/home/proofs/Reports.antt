@@ -17,7 +17,7 @@ use Rattle.state.specs.Image.{readKept, reportedIn}
 use Rattle.state.proofs.ImageLaws.{readKept-sound}
 use Rattle.rules.specs.Outcome.{done, bad-state, short-output, bad-send}
 use Rattle.rules.specs.Report.{told, reporting, reportOf, counting}
-use Rattle.rules.proofs.LegalLaws.{legalKept-is}
+use Rattle.state.proofs.LegalLaws.{legalKept-is}
 use Rattle.paxos.specs.Paxos.{at}
 use Rattle.paxos.proofs.Member.{clash}
 use Rattle.views.specs.Hall.{blank, Says}

@@ -15,8 +15,9 @@ use Rattle.state.specs.State.{Kept, Pair, candidate, State}
 use Rattle.state.specs.Legal.{all, count}
 use Rattle.rules.specs.Events.{forHub, setHub, leads}
 use Rattle.rules.specs.Receive.{Effect, gather, joined, counted, heardYes}
-use Rattle.rules.proofs.BoolLaws.{cond-either}
-use Rattle.rules.proofs.LegalLaws.{IsWho, IsCandidate}
+use Rattle.rows.proofs.BoolLaws.{cond-either}
+use Rattle.state.proofs.LegalLaws.{IsCandidate}
+use Rattle.rules.proofs.LegalLaws.{IsWho}
 use Rattle.views.specs.Hall.{Hall}
 use Rattle.views.proofs.Moves.{stay}
 use Rattle.home.specs.Stands.{Logs, Ground, Yields, Rooted}

@@ -5,13 +5,13 @@ use native.Mathlib.Omega.{arith}
 use mathlib.Core.Path.{_≡_, refl, sym, _∙_, ap, subst}
 use mathlib.Core.Bool.{Bool, true, false, _&&_, and-true}
 use mathlib.Core.List.{List, [], _∷_, _++_}
-use borrow.Author.Tests.{lt-ltb, le-ltb, eq-eqb, ne-eqb, eqb-true}
+use borrow.Author.Tests.{lt-ltb, le-ltb, eq-eqb, ne-eqb}
 use lib.Dec.{ltb, eqb}
 use lib.ListN.{length, take, drop, getD}
 use Rattle.kinds.specs.Of.{place, term}
 use Rattle.kinds.specs.Outcome.{done}
 use Rattle.kinds.specs.Sizes.{text-room}
-use Rattle.command.proofs.Tests.{by-test, both}
+use Rattle.command.proofs.Tests.{by-test}
 use Rattle.message.specs.Write.{messageWith}
 use Rattle.message.specs.declared.Fields.{Fields}
 use Rattle.message.specs.declared.Body.{Body}
@@ -23,28 +23,12 @@ use Rattle.writer.specs.declared.Write.the-variants.{Message as Write·Message}
 use Rattle.writer.proofs.WrittenLaws.{written-back, written-fits}
 use Rattle.kritnamon.specs.Message.{message-numbers, numbersOf, tellsRead, tells}
 use Rattle.kritnamon.specs.Numbers.{kindIn, ownIn, numbersIn}
-use Rattle.kritnamon.specs.Write.{bodyWith, fieldsWith, same, areFields, writes, Leaves}
+use Rattle.state.specs.Image.{same}
+use Rattle.state.proofs.ImageLaws.{same-is, is-same}
+use Rattle.kritnamon.specs.Write.{bodyWith, fieldsWith, areFields, writes, Leaves}
 use Rattle.kritnamon.proofs.NumbersLaws.{numbers-same, own-four, room-small}
 
 -- ---- the same numbers
-
--- Lists of the same numbers are the same,
-same-true : (a b : List ℕ) → same a b ≡ true → a ≡ b
-unfolding same
-same-true [] [] h = refl
-same-true [] (n ∷ b) h = absurd (let z : _≡_ {A = ℕ} 0 1 = cc in omega arith)
-same-true (m ∷ a) [] h = absurd (let z : _≡_ {A = ℕ} 0 1 = cc in omega arith)
-same-true (m ∷ a) (n ∷ b) h =
-    let t = both (eqb m n) (same a b) h in
-    let e : m ≡ n = eqb-true m n (t .0) in
-    let r : a ≡ b = same-true a b (t .1) in
-    cc
-
--- and a list is the same as itself.
-same-itself : (a : List ℕ) → same a a ≡ true
-unfolding same
-same-itself [] = refl
-same-itself (m ∷ a) = rw (eq-eqb m m refl) (same-itself a)
 
 -- Four numbers compared one by one.
 four-same : (o : List ℕ) (x y z n : ℕ) → length o ≡ 4 →
@@ -89,7 +73,7 @@ module _ (ns : List ℕ) where
   other-count h =
       by-test (areFields ns)
       (λ yes.
-      let l : length (numbersIn (fieldsWith ns)) ≡ length ns = ap length (same-true (numbersIn (fieldsWith ns)) ns yes) in
+      let l : length (numbersIn (fieldsWith ns)) ≡ length ns = ap length (same-is (numbersIn (fieldsWith ns)) ns yes) in
       absurd (h (omega (arith, l, own-four (fieldsWith ns .body)))))
       (λ no. no)
 
@@ -168,7 +152,7 @@ fields-numbers f = λ i. record { term = f .term; from = f .from; to = f .to; bo
 -- and so it can be written by them.
 pub writes-numbers : (f : Fields) (rows out : List ℕ) → text-room ≤ length out → writes (numbersIn f) rows out ≡ written f rows out
 unfolding writes areFields
-writes-numbers f rows out h = rw (le-ltb (length out) text-room h, fields-numbers f, same-itself (numbersIn f))
+writes-numbers f rows out h = rw (le-ltb (length out) text-room h, fields-numbers f, is-same (numbersIn f) (numbersIn f) refl)
 
 -- ---- what is written is read back
 
@@ -197,5 +181,5 @@ module _ (ns rows out : List ℕ) where
       let f = fieldsWith ns in
       let m = messageWith f rows in
       let back = written-back f rows out (rw (w .1) at told) in
-      let same-numbers : numbersOf m ≡ ns = sym (numbers-same m) ∙ ap (λ (g : Fields). numbersIn g) (back .fields-are) ∙ same-true (numbersIn f) ns (w .0) in
+      let same-numbers : numbersOf m ≡ ns = sym (numbers-same m) ∙ ap (λ (g : Fields). numbersIn g) (back .fields-are) ∙ same-is (numbersIn f) ns (w .0) in
       rw (w .1, le-ltb (length lent) 8 h, back .read-is) (refl, ap (λ (l : List ℕ). l ++ drop message-numbers lent) same-numbers)

@@ -1,7 +1,7 @@
 -- What writing a message alone tells C (rule R35): an illegal message is 4, too short an output 3. Assumes nothing.
 use Prim.Native.Nat.{ℕ, _+_, _*_}
-use mathlib.Core.Bool.{Bool, true, false, cond, _&&_}
-use mathlib.Core.List.{List, [], _∷_}
+use mathlib.Core.Bool.{Bool, cond}
+use mathlib.Core.List.{List}
 use mathlib.Core.Path.{_≡_}
 use lib.Dec.{ltb, eqb}
 use lib.ListN.{length, getD}
@@ -12,6 +12,7 @@ use Rattle.message.specs.declared.Body.{Body}
 use Rattle.message.specs.declared.Body.the-variants.{VoteRequest, VoteYes, VoteNo, Append, AppendYes, AppendNo}
 use Rattle.message.specs.declared.Fields.{Fields}
 use Rattle.writer.specs.Written.{Written, unwritten, written}
+use Rattle.state.specs.Image.{same}
 use Rattle.kritnamon.specs.Numbers.{numbersIn}
 
 -- The body of a type's number, three numbers of the type's own and the count; numbers that the type does not have are passed over, and what
@@ -32,13 +33,6 @@ fieldsWith ns =
       to = hub (getD ns 3 0);
       body = bodyWith (getD ns 0 0) (getD ns 4 0) (getD ns 5 0) (getD ns 6 0) (getD ns 7 0);
     }
-
--- Two lists of the same numbers.
-unfoldable pub same : List ℕ → List ℕ → Bool
-same [] [] = true
-same [] (n ∷ ns) = false
-same (m ∷ ms) [] = false
-same (m ∷ ms) (n ∷ ns) = eqb m n && same ms ns
 
 -- Whether numbers are a message's: exactly those of the fields that they give. So there are eight, the first is a type's, and each that the
 -- type does not have is 0.

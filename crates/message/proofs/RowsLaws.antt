@@ -9,6 +9,7 @@ use Rattle.command.proofs.CommandLaws.{commandBytes-of}
 use Rattle.command.proofs.WordsLaws.{part-bytes, part-length}
 use Rattle.command.specs.Command.{commandBytes, commandOf}
 use Rattle.command.specs.Words.{part, wordAt}
+use Rattle.rows.specs.Rows.{rowsIn}
 use Rattle.message.specs.Rows.{rowEntries, rowEntry}
 use Rattle.message.specs.Text.{entriesText, entry=, entryText}
 use Rattle.text.proofs.HexLaws.{Bytes}
@@ -81,7 +82,7 @@ module _ (rows : List ℕ) (from : ℕ) (bytes : Bytes rows) (inside : from + 20
 
   -- The row's line.
   row-text : (x : ℕ) → x ≡ wordAt from 4 rows → entryText (rowEntry (drop from rows)) ≡ (entry= ++ (decimal x ++ (58 ∷ []))) ++ (hex held ++ LF)
-  unfolding entryText rowEntry wordAt part
+  unfolding entryText wordAt part
   row-text x e =
       let c : commandBytes (commandOf (part 4 16 (drop from rows))) ≡ held = commandBytes-of (part 4 16 (drop from rows)) (part-length 4 16 (drop from rows) room-in-row) (part-bytes 4 16 (drop from rows) room-in-row drop-bytes) ∙ sym held-is in
       ap₂ (λ (y : ℕ) (l : List ℕ). entry= ++ (decimal y ++ ((58 ∷ []) ++ (hex l ++ LF)))) (sym e) c
@@ -125,7 +126,7 @@ module _ (l rows : List ℕ) (at count : ℕ) where
 
     -- All stand.
     pub writing-all : left ≤ 0 → Wrote l at (entriesText (rowEntries count rows)) i now
-    unfolding rowEntries entriesText
+    unfolding rowsIn entriesText
     writing-all h =
         let z : left ≡ 0 = omega arith in
         let e : entriesText (rowEntries count rows) ≡ so-far .done = so-far .text ∙ ap (λ (n : ℕ). so-far .done ++ entriesText (rowEntries n (drop from rows))) z ∙ append-nil (so-far .done) in
@@ -133,7 +134,7 @@ module _ (l rows : List ℕ) (at count : ℕ) where
 
     module _ (more : 0 < left) where
       next-text : entriesText (rowEntries left (drop from rows)) ≡ entryText (rowEntry (drop from rows)) ++ entriesText (rowEntries (left - 1) (drop (from + 20) rows))
-      unfolding rowEntries entriesText
+      unfolding rowsIn entriesText
       next-text =
           let one : left ≡ suc (left - 1) = omega arith in
           ap (λ (n : ℕ). entriesText (rowEntries n (drop from rows))) one

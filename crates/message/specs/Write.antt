@@ -9,7 +9,8 @@ use Rattle.message.specs.Message.{Message}
 use Rattle.message.specs.Legal.{legalMessage}
 use Rattle.message.specs.Fields.{countIn, messageOf}
 use Rattle.message.specs.Answer.{openingOf}
-use Rattle.message.specs.Rows.{row-size, rowEntries}
+use Rattle.rows.specs.Rows.{row-size}
+use Rattle.message.specs.Rows.{rowEntries}
 use Rattle.message.specs.declared.Fields.{Fields}
 
 -- How many entries follow these fields.

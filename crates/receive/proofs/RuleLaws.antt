@@ -26,7 +26,7 @@ use Rattle.state.specs.Image.{image, stateIn}
 use Rattle.rules.specs.Events.{len, says}
 use Rattle.rules.specs.Receive.{Effect, idle, effect, vote, heardYes, fits, taken, heardAppend, heardEnd, rule, contradicts}
 use Rattle.rules.specs.Step.{over, written}
-use Rattle.rules.proofs.BoolLaws.{cond-either}
+use Rattle.rows.proofs.BoolLaws.{cond-either}
 use Rattle.rules.proofs.MessageLaws.{append-is}
 use Rattle.rules.proofs.Fair.{IsPeer}
 use Rattle.step.specs.Promise.{Ready, HearsEnd, HearsAppend, isEffect, ruledBy, saidBy, Ruled}

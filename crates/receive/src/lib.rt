@@ -273,7 +273,7 @@ fn receive_message(
             bytes: 0,
         };
     }
-    let h = state::read_head(state);
+    let h = head::read_head(state);
     if is_stale(h, f) {
         return Told {
             outcome: STALE,

@@ -7,12 +7,13 @@ use lib.ListN.{length, drop}
 use lib.Seq.{sets}
 use Rattle.kinds.specs.declared.Term.{Term}
 use Rattle.message.specs.Walk.{entriesFrom, Lie}
-use Rattle.state.specs.Image.{row-size, logRow, row, bytesOf}
-use Rattle.state.proofs.ListLaws.{sets-then}
-use Rattle.state.proofs.TableLaws.{rowBytes-length}
-use Rattle.step.specs.declared.Words.{Words}
-use Rattle.step.specs.Words.{commandIn, rowWords}
-use Rattle.step.proofs.WordsLaws.{row-words}
+use Rattle.rows.specs.Rows.{row-size, row, bytesOf}
+use Rattle.state.specs.Image.{logRow}
+use Rattle.rows.proofs.ListLaws.{sets-then}
+use Rattle.rows.proofs.RowLaws.{rowBytes-length}
+use Rattle.rows.specs.declared.Words.{Words}
+use Rattle.rows.specs.Words.{commandIn, rowWords}
+use Rattle.rows.proofs.WordsLaws.{row-words}
 use Rattle.message.proofs.WalkLaws.{Walked, lie-none}
 
 -- No entry is left.

@@ -16,14 +16,15 @@ use Rattle.message.specs.Walk.{entriesFrom}
 use Rattle.state.specs.declared.Head.{Head}
 use Rattle.state.specs.State.{Kept, Lost, follower, State}
 use Rattle.state.specs.Legal.{legalState}
-use Rattle.state.specs.Image.{head-size, row-size, state-size, logRow, bytesOf, image, stateIn}
+use Rattle.rows.specs.Rows.{row-size, bytesOf, Row, entryRow, rowBytes}
+use Rattle.state.specs.Image.{head-size, state-size, logRow, image, stateIn}
 use Rattle.state.specs.Head.{bytesOfHead, headOf}
-use Rattle.state.specs.Table.{Row, entryRow, rowBytes, rowsOf}
+use Rattle.state.specs.Table.{rowsOf}
 use Rattle.state.proofs.LegalLaws.{rowsOf-length}
-use Rattle.state.proofs.ListLaws.{bytesOf-map}
+use Rattle.rows.proofs.ListLaws.{bytesOf-map}
 use Rattle.rules.specs.Events.{termAt}
 use Rattle.rules.specs.Receive.{fits, replaced, taken}
-use Rattle.rules.proofs.BoolLaws.{and-first, and-second, and-either, or-either, not-both}
+use Rattle.rows.proofs.BoolLaws.{and-first, and-second, and-either, or-either, not-both}
 use Rattle.rules.proofs.MessageLaws.{append-is}
 use Rattle.step.specs.Promise.{Ready}
 use Rattle.step.specs.Heads.{taking}

@@ -10,11 +10,10 @@ use Rattle.state.specs.State.{follower, State}
 use Rattle.state.specs.Legal.{legalState}
 use Rattle.state.specs.Image.{image, stateIn}
 use Rattle.state.specs.Head.{headIn, headOf}
-use Rattle.state.proofs.LegalLaws.{legal-held}
+use Rattle.state.proofs.LegalLaws.{legal-held, legalState-kept, follower-legal}
 use Rattle.state.proofs.ImageLaws.{image-head}
 use Rattle.rules.specs.Events.{withTerm}
 use Rattle.rules.specs.Receive.{raised, fits}
-use Rattle.rules.proofs.LegalLaws.{legalState-kept, follower-legal}
 use Rattle.step.specs.Promise.{Ready, HearsAppend}
 use Rattle.step.specs.Heads.{following}
 use Rattle.step.proofs.PromiseLaws.{ready-legal, ready-head, ready-next, ready-term}

@@ -16,8 +16,9 @@ use Rattle.state.specs.State.{Kept, State}
 use Rattle.state.specs.Legal.{legalState}
 use Rattle.rules.specs.Events.{len, says}
 use Rattle.rules.specs.Receive.{effect, fits, replaced, taken, heardAppend}
-use Rattle.rules.proofs.BoolLaws.{cond-either}
-use Rattle.rules.proofs.LegalLaws.{IsWho, IsKept, legalState-kept, follower-legal}
+use Rattle.rows.proofs.BoolLaws.{cond-either}
+use Rattle.state.proofs.LegalLaws.{IsKept, legalState-kept, follower-legal}
+use Rattle.rules.proofs.LegalLaws.{IsWho}
 use Rattle.rules.proofs.MessageLaws.{IsAppend, append-is}
 use Rattle.rules.proofs.Fair.{Fine, IsPeer}
 use Rattle.rules.proofs.AppendLaws.{heardAppend-fine}

@@ -5,16 +5,17 @@ ghost use Prim.Native.Nat.{_+_, _*_, _≤_};
 ghost use lib.ListN.{length, drop};
 ghost use lib.Seq.{sets};
 ghost use Rattle.message.specs.Walk.{entriesFrom, Lie};
-ghost use Rattle.state.specs.Image.{row-size, logRow, bytesOf, image, stateIn};
+ghost use Rattle.rows.specs.Rows.{row-size, bytesOf};
+ghost use Rattle.state.specs.Image.{logRow, image, stateIn};
 ghost use Rattle.rules.specs.Receive.{fits};
 ghost use Rattle.step.specs.Promise.{whoIn, Ready, HearsAppend};
 ghost use Rattle.replace.specs.Taken.{takenBy, Followed, Heard};
 use kinds::Place;
 use kinds::Term;
 use message::EntryAt;
+use rows::Words;
 use state::Head;
 use step::Group;
-use step::Words;
 
 // The bytes of a row of a state's table.
 const ROW: usize = 20;
@@ -45,7 +46,7 @@ fn put_entries(state: &mut [u8], row: usize, count: u32, text: &[u8], at: usize)
         else {
             return;
         };
-        step::put_row(
+        rows::put_row(
             state,
             to,
             term.number(),
@@ -69,7 +70,7 @@ fn follow_in(g: Group, state: &mut [u8]) -> Head
     requires { ⌜ Ready (whoIn g) (now state) ⌝ }
     ensures { λ r. ⌜ Followed (whoIn g) (now (state .entry)) r (now (state .exit)) ⌝ }
 {
-    let h = state::read_head(state);
+    let h = head::read_head(state);
     step::raise_in(g, h, h.term, state);
     step::follow(h, h.term)
 }
@@ -96,11 +97,11 @@ fn take_in(
     }
     let most = step::greater(h.chosen, chosen);
     if h.ballot.equals(h.term) & (end.number() <= h.length.number()) {
-        state::write_head(state, step::take_head(h, most, h.length));
+        head::write_head(state, step::take_head(h, most, h.length));
         return true;
     }
-    put_entries(state, step::row_at(prev.number()), count, text, at);
-    state::write_head(state, step::take_head(h, most, end));
+    put_entries(state, head::row_at(prev.number()), count, text, at);
+    head::write_head(state, step::take_head(h, most, end));
     true
 }
 

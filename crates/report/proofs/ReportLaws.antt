@@ -15,18 +15,19 @@ use Rattle.command.specs.Entry.{Entry}
 use Rattle.command.proofs.WordsLaws.{Bytes}
 use Rattle.command.proofs.CommandLaws.{commandBytes-length}
 use Rattle.state.specs.State.{Kept, reported, reportedAt}
-use Rattle.state.specs.Image.{head-size, row-size, state-size, rowsIn, entryOf, keptIn, readKept}
+use Rattle.rows.specs.Rows.{row-size, rowsIn, entryOf}
+use Rattle.state.specs.Image.{head-size, state-size, keptIn, readKept}
 use Rattle.state.specs.Head.{headIn}
 use Rattle.state.specs.Check.{isSome}
 use Rattle.state.proofs.LegalLaws.{legalKept-is}
-use Rattle.state.proofs.PartLaws.{part-drop}
+use Rattle.rows.proofs.PartLaws.{part-drop}
 use Rattle.state.proofs.ImageLaws.{readKept-sound}
 use Rattle.rules.specs.Outcome.{done, bad-state, short-output, bad-send}
-use Rattle.step.specs.declared.Words.{Words}
-use Rattle.step.specs.Words.{wordsAt, wordsBytes}
+use Rattle.rows.specs.declared.Words.{Words}
+use Rattle.rows.specs.Words.{wordsAt, wordsBytes}
 use Rattle.rules.specs.Report.{Report, told, reporting, reportOf, Reports, counting, chosenOf}
 use Rattle.step.proofs.GateLaws.{readKept-some, readKept-none}
-use Rattle.step.proofs.WordsLaws.{commandIn-at, command-words, duration-below}
+use Rattle.rows.proofs.WordsLaws.{commandIn-at, command-words, duration-below}
 use Rattle.step.proofs.LostLaws.{kept-length, kept-size, kept-within}
 
 -- Two answers that both satisfy the promise of a report are equal.

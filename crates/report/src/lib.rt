@@ -19,7 +19,7 @@ const NOT_REPORTED: u32 = 12;
 pub fn reported_at(state: &[u8], place: u32, out: &mut [u8]) -> u32
     ensures { λ r. ⌜ Reports (reportOf (now (state .entry)) place (now (out .entry))) r (now (out .exit)) ⌝ }
 {
-    if !state::is_kept_legal(state) {
+    if !legal::is_kept_legal(state) {
         return BAD_STATE;
     }
     if out.len() < COMMAND {
@@ -28,11 +28,11 @@ pub fn reported_at(state: &[u8], place: u32, out: &mut [u8]) -> u32
     if place == 0 {
         return NOT_REPORTED;
     }
-    let h = state::read_head(state);
+    let h = head::read_head(state);
     if h.chosen.number() < place {
         return NOT_REPORTED;
     }
-    step::put_words(out, 0, step::words_at(state, step::row_at(place - 1) + 4));
+    rows::put_words(out, 0, rows::words_at(state, head::row_at(place - 1) + 4));
     DONE
 }
 
@@ -40,9 +40,9 @@ pub fn reported_at(state: &[u8], place: u32, out: &mut [u8]) -> u32
 pub fn chosen_places(state: &[u8]) -> u64
     ensures { λ r. ⌜ r ≡ chosenOf (now (state .entry)) ⌝ }
 {
-    if !state::is_kept_legal(state) {
+    if !legal::is_kept_legal(state) {
         return BAD_STATE as u64;
     }
-    let h = state::read_head(state);
+    let h = head::read_head(state);
     (h.chosen.number() as u64) * 4_294_967_296
 }

@@ -16,11 +16,12 @@ use Rattle.state.specs.Legal.{legalState}
 use Rattle.rules.specs.Events.{termAt}
 use Rattle.rules.specs.Receive.{fits, replaced, taken, heardAppend}
 use Rattle.rules.specs.Theorems.{Grows}
-use Rattle.rules.proofs.BoolLaws.{and-first, and-second, and-either, or-either, not-both, cond-either}
+use Rattle.rows.proofs.BoolLaws.{and-first, and-second, and-either, or-either, not-both, cond-either}
 use Rattle.kinds.proofs.BetweenLaws.{between-in}
 use Rattle.command.proofs.EntryLaws.{legalEntries-wider}
 use Rattle.rules.proofs.EntryLaws.{legalEntries-take, legalEntries-append, lastTerm, termAt-is}
-use Rattle.rules.proofs.LegalLaws.{IsWho, IsKept, legalState-kept, follower-legal}
+use Rattle.state.proofs.LegalLaws.{IsKept, legalState-kept, follower-legal}
+use Rattle.rules.proofs.LegalLaws.{IsWho}
 use Rattle.rules.proofs.MessageLaws.{IsAppend}
 use Rattle.rules.proofs.Fair.{Fine, does, IsPeer, grows-same, writes-one, says-legal, some-not-none}
 

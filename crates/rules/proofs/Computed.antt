@@ -13,15 +13,15 @@ use Rattle.message.specs.Fields.{ownFields, fields, typeOf, ownNumbers, numbers
 use Rattle.message.specs.Legal.{legalTo, legalBody, legalMessage}
 use Rattle.message.specs.Message.{entriesOf}
 use Rattle.message.specs.Text.{linesText, entryText, entriesText, text, typeAmong, types, lines, entry, entries, message, ifLegal, read, partFrom, partTo}
-use Rattle.state.specs.Image.{state-size, roleOf, votersOf, gatheredOf, confirmedOf, flags, bytesOf, row, headBytes, image, rowsIn, keptIn, wordsIn, lostIn, stateIn, same, readState, readKept}
+use Rattle.rows.specs.Rows.{bytesOf, row, rowsIn}
+use Rattle.state.specs.Image.{state-size, roleOf, votersOf, gatheredOf, confirmedOf, flags, headBytes, image, keptIn, wordsIn, lostIn, stateIn, same, readState, readKept}
 use Rattle.state.specs.Legal.{all, count, legalKept, legalPair, legalCandidate, legalLeader, legalLost, legalState}
 use Rattle.state.specs.State.{fresh, reported}
 use Rattle.rules.specs.Events.{isLeader, isCandidate, termAt, says, withTerm, leads, started, asks, start, withEntry, proposeLeading, propose, sends, send, restart}
 use Rattle.rules.specs.Majority.{confirmedBy, largest, majorityPlace}
 use Rattle.rules.specs.Receive.{vote, gather, joined, counted, heardYes, fits, replaced, taken, heardAppend, recorded, heardEnd, rule, isMisaddressed, isRequest, isStale, staleReply, contradicts, raised, afterRaise, atOwnTerm, receive}
-use Rattle.rules.specs.Row.{holds}
+use Rattle.rules.specs.Row.{holds, Row}
 use Rattle.rules.specs.Step.{eventOf, refusal, over, written, answer, receiving, acting, keptAlone, seen, atState, atEvent, stepOf}
-use Rattle.rules.specs.Row.{Row}
 
 -- `holds`: whoever unfolds this one has all the definitions below it unfolded.
 unfoldable pub computed : Row → Bool

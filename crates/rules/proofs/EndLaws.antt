@@ -16,9 +16,10 @@ use Rattle.state.specs.Legal.{legalLost, legalState}
 use Rattle.rules.specs.Majority.{majorityPlace}
 use Rattle.rules.specs.Events.{isLeader}
 use Rattle.rules.specs.Receive.{recorded, heardEnd, contradicts}
-use Rattle.rules.proofs.BoolLaws.{cond-either}
+use Rattle.rows.proofs.BoolLaws.{cond-either}
 use Rattle.rules.proofs.CountLaws.{all-set}
-use Rattle.rules.proofs.LegalLaws.{IsWho, IsKept, IsLeader, legalLeader-is, legalState-kept, legalState-lost, leader-legal}
+use Rattle.state.proofs.LegalLaws.{IsKept, IsLeader, legalLeader-is, legalState-kept, legalState-lost, leader-legal}
+use Rattle.rules.proofs.LegalLaws.{IsWho}
 use Rattle.rules.proofs.MajorityLaws.{majorityPlace-within}
 use Rattle.rules.proofs.Fair.{Sound, Fine, idles, does, IsPeer, writes-none}
 

@@ -18,12 +18,13 @@ use Rattle.state.specs.Legal.{all, legalKept, legalLost, legalState}
 use Rattle.rules.specs.Outcome.{wrong-role, no-term-left, bad-command, log-full, bad-send}
 use Rattle.rules.specs.Events.{isLeader, len, withTerm, leads, started, asks, start, withEntry, proposeLeading, propose, sends, send, restart}
 use Rattle.rules.specs.Theorems.{Grows, Says}
-use Rattle.rules.proofs.BoolLaws.{and-second, and-both, or-first, or-second, cond-either, cond-some}
+use Rattle.rows.proofs.BoolLaws.{and-second, and-both, or-first, or-second, cond-either, cond-some}
 use Rattle.rules.proofs.CountLaws.{all-weaker, all-set, all-drop, all-replicate, count-set, count-none}
 use Rattle.kinds.proofs.BetweenLaws.{between-in}
 use Rattle.command.proofs.EntryLaws.{legalEntries-wider}
 use Rattle.rules.proofs.EntryLaws.{legalEntries-drop, legalEntries-joined, termAt-is}
-use Rattle.rules.proofs.LegalLaws.{IsWho, isHub-is, IsKept, legalKept-is, IsLeader, legalLeader-is, legalState-kept, legalState-lost, follower-legal, candidate-legal, leader-legal}
+use Rattle.state.proofs.LegalLaws.{IsKept, legalKept-is, IsLeader, legalLeader-is, legalState-kept, legalState-lost, follower-legal, candidate-legal, leader-legal}
+use Rattle.rules.proofs.LegalLaws.{IsWho, isHub-is}
 use Rattle.rules.proofs.MessageLaws.{is-request, is-append}
 use Rattle.rules.proofs.Fair.{Sound, Fair, grows-same, writes-none, writes-one, says-legal, refuses-fair, goes-fair}
 

@@ -17,10 +17,11 @@ use Rattle.state.specs.State.{Kept, Pair, Lost, follower, candidate, leader, St
 use Rattle.state.specs.Legal.{all, count, legalPair, legalLost, legalState}
 use Rattle.rules.specs.Events.{isCandidate, leads}
 use Rattle.rules.specs.Receive.{effect, gather, joined, counted, heardYes, contradicts}
-use Rattle.rules.proofs.BoolLaws.{and-first, and-second, and-both, or-first, not-both, cond-either}
+use Rattle.rows.proofs.BoolLaws.{and-first, and-second, and-both, or-first, not-both, cond-either}
 use Rattle.rules.proofs.CountLaws.{all-weaker, all-drop, all-replicate, all-map, getD-set-true}
 use Rattle.rules.proofs.EntryLaws.{legalEntries-joined, legalEntries-commands}
-use Rattle.rules.proofs.LegalLaws.{IsWho, IsKept, IsCandidate, legalCandidate-is, legalState-kept, legalState-lost, candidate-legal}
+use Rattle.state.proofs.LegalLaws.{IsKept, IsCandidate, legalCandidate-is, legalState-kept, legalState-lost, candidate-legal}
+use Rattle.rules.proofs.LegalLaws.{IsWho}
 use Rattle.rules.proofs.MessageLaws.{IsYes}
 use Rattle.rules.proofs.Fair.{Sound, Fine, idles, does, IsPeer, grows-same, writes-none}
 use Rattle.rules.proofs.EventsLaws.{leads-legal}

@@ -1,4 +1,3 @@
-pub mod BoolLaws
 pub mod CountLaws
 pub mod EntryLaws
 pub mod LegalLaws

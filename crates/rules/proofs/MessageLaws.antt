@@ -11,8 +11,8 @@ use Rattle.kinds.specs.Sizes.{limit}
 use Rattle.command.specs.Entry.{Entry, legalEntries}
 use Rattle.message.specs.Message.{vote-request, vote-yes, append}
 use Rattle.message.specs.Legal.{legalBody}
-use Rattle.rules.proofs.BoolLaws.{and-both, each-holds, beq-true, beq-both}
-use Rattle.rules.proofs.LegalLaws.{none-is, is-none}
+use Rattle.rows.proofs.BoolLaws.{and-both, each-holds, beq-true, beq-both}
+use Rattle.state.proofs.LegalLaws.{none-is, is-none}
 
 -- ---- vote-request
 

@@ -17,11 +17,12 @@ use Rattle.rules.specs.Outcome.{Next, done, stale, not-addressed, contra
 use Rattle.rules.specs.Events.{isLeader, isCandidate, len, says, withTerm}
 use Rattle.rules.specs.Receive.{Effect, idle, effect, vote, rule, isMisaddressed, isRequest, isStale, staleReply, contradicts, raised, afterRaise, atOwnTerm, receive}
 use Rattle.rules.specs.Theorems.{Grows, Says, ChangesNothing, NothingNew}
-use Rattle.rules.proofs.BoolLaws.{and-first, and-either, or-either, or-first, or-second, cond-either, not-both}
+use Rattle.rows.proofs.BoolLaws.{and-first, and-either, or-either, or-first, or-second, cond-either, not-both}
 use Rattle.kinds.proofs.BetweenLaws.{between-in}
 use Rattle.command.proofs.EntryLaws.{legalEntries-wider}
 use Rattle.rules.proofs.EntryLaws.{legalEntries-drop, lastTerm, lastTerm-from, legalEntries-take}
-use Rattle.rules.proofs.LegalLaws.{IsWho, IsKept, IsMessage, legalState-kept, follower-legal}
+use Rattle.state.proofs.LegalLaws.{IsKept, legalState-kept, follower-legal}
+use Rattle.rules.proofs.LegalLaws.{IsWho, IsMessage}
 use Rattle.rules.proofs.MessageLaws.{request-is, yes-is, is-yes, append-is}
 use Rattle.rules.proofs.Fair.{Fair, Fine, idles, does, IsPeer, grows-same, grows-then, writes-none, writes-one, says-legal, some-not-none, refuses-fair, goes-fair}
 use Rattle.rules.proofs.EventsLaws.{withTerm-kept, withTerm-grows}

@@ -24,8 +24,8 @@ use Rattle.rules.specs.Events.{isLeader, len, termAt, withTerm, leads, s
 use Rattle.rules.specs.Receive.{Effect, idle, effect, joined, counted, heardYes, fits, replaced, taken, heardAppend, recorded, heardEnd, rule, isMisaddressed, isStale, contradicts, atOwnTerm, receive}
 use Rattle.rules.specs.Happens.{to-start, to-propose, to-send, to-restart, to-receive, happens, legalAt}
 use Rattle.rules.specs.Theorems.{ChangeShows}
-use Rattle.rules.proofs.BoolLaws.{and-first, or-either, cond-either}
-use Rattle.rules.proofs.LegalLaws.{legalCandidate-is, legalState-lost}
+use Rattle.rows.proofs.BoolLaws.{and-first, or-either, cond-either}
+use Rattle.state.proofs.LegalLaws.{legalCandidate-is, legalState-lost}
 use Rattle.rules.proofs.Theorems.{raised-term}
 
 -- With the same term, ballot and length the log is the same.

@@ -21,7 +21,7 @@ use Rattle.rules.specs.Events.{restart}
 use Rattle.rules.specs.Step.{Call, Event, start-event, propose-event, send-event, restart-event, receive-event, eventOf, refusal, over, written, answer, receiving, acting, keptAlone, seen, atState, atEvent, stepOf}
 use Rattle.rules.specs.Happens.{Occasion, to-start, to-propose, to-send, to-restart, to-receive, happens, legalAt, received, occasionOf, Meets}
 use Rattle.rules.specs.Theorems.{Leaves, StepIsWhatHappens, CallLeavesLegal}
-use Rattle.rules.proofs.BoolLaws.{and-first, and-second, and-both, cond-either, none-some, cond-some}
+use Rattle.rows.proofs.BoolLaws.{and-first, and-second, and-both, cond-either, none-some, cond-some}
 use Rattle.rules.proofs.Theorems.{next-is-legal, message-is-legal, refusal-is-silent}
 
 -- ---- the step does what happens

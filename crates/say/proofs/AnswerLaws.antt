@@ -24,7 +24,7 @@ use Rattle.state.specs.Head.{headIn}
 use Rattle.rules.specs.Events.{len, says}
 use Rattle.rules.specs.Receive.{vote}
 use Rattle.rules.proofs.EntryLaws.{lastTerm, lastTerm-from, legalEntries-take, legalEntries-drop}
-use Rattle.rules.proofs.LegalLaws.{IsKept}
+use Rattle.state.proofs.LegalLaws.{IsKept}
 use Rattle.rules.proofs.MessageLaws.{request-is, is-yes}
 use Rattle.rules.proofs.Fair.{says-legal}
 use Rattle.step.specs.Append.{Tested}

@@ -1,6 +1,6 @@
 -- Laws of any message of a hub: its entries where they lie in the state's bytes, what is handed over to be written, and what is written then.
 -- Assumes nothing.
-use Prim.Native.Nat.{ℕ, zero, suc, _+_, _-_, _*_, _≤_}
+use Prim.Native.Nat.{ℕ, _+_, _-_, _*_, _≤_}
 use native.Mathlib.Omega.{arith}
 use native.Mathlib.Nat.{zero-add}
 use mathlib.Core.Path.{_≡_, refl, sym, _∙_, ap}
@@ -18,7 +18,7 @@ use Rattle.message.specs.Message.{Message, entriesOf, vote-request, vote-yes, v
 use Rattle.message.specs.Legal.{legalMessage}
 use Rattle.message.specs.Fields.{countIn, bodyOf, messageOf}
 use Rattle.message.specs.Text.{text}
-use Rattle.message.specs.Rows.{rowEntry, rowEntries}
+use Rattle.message.specs.Rows.{rowEntries}
 use Rattle.message.specs.Write.{Puts, countOf, messageWith}
 use Rattle.message.specs.declared.Body.{Body}
 use Rattle.message.specs.declared.Body.the-variants.{VoteRequest, VoteYes, VoteNo, Append, AppendYes, AppendNo}
@@ -27,11 +27,12 @@ use Rattle.message.proofs.ReadLaws.{text-most}
 use Rattle.text.specs.Wrote.{Wrote}
 use Rattle.state.specs.declared.Head.{Head}
 use Rattle.state.specs.State.{State}
-use Rattle.state.specs.Image.{head-size, row-size, state-size, entryOf, rowsIn, keptIn, stateIn}
-use Rattle.state.proofs.TableLaws.{rowsIn-length}
+use Rattle.rows.specs.Rows.{row-size, entryOf, rowsIn}
+use Rattle.state.specs.Image.{head-size, state-size, keptIn, stateIn}
+use Rattle.rows.proofs.RowLaws.{rowsIn-length, rowsIn-drop}
 use Rattle.rules.specs.Events.{says}
 use Rattle.rules.specs.Step.{over}
-use Rattle.rules.proofs.LegalLaws.{IsKept, legalState-kept}
+use Rattle.state.proofs.LegalLaws.{IsKept, legalState-kept}
 use Rattle.step.specs.Append.{Tested}
 use Rattle.step.proofs.PromiseLaws.{ready-legal, ready-size}
 use Rattle.step.proofs.AppendLaws.{tested-length, tested-term}
@@ -51,26 +52,6 @@ module _ (w : Who) (h : Head) (l : List ℕ) (t : Tested w h l) where
 
 -- ---- the entries of a log, where they lie
 
--- The rows that a message is written from are those that a log is read from.
-rowEntries-is : (n : ℕ) (l : List ℕ) → rowEntries n l ≡ rowsIn entryOf n l
-unfolding rowEntries rowEntry rowsIn
-rowEntries-is zero l = refl
-rowEntries-is (suc n) l = rw (rowEntries-is n (drop row-size l))
-
--- The rows after the first p.
-rowsIn-drop : (p n : ℕ) (l : List ℕ) → drop p (rowsIn entryOf n l) ≡ rowsIn entryOf (n - p) (drop (p * row-size) l)
-unfolding rowsIn
-rowsIn-drop zero n l =
-    let e : n - 0 ≡ n = omega arith in
-    rw e
-rowsIn-drop (suc p) zero l =
-    let e : 0 - suc p ≡ 0 = omega arith in
-    rw e
-rowsIn-drop (suc p) (suc n) l =
-    let e : suc n - suc p ≡ n - p = omega arith in
-    let f : suc p * row-size ≡ row-size + p * row-size = omega arith in
-    rw (e, f, ← drop-drop (p * row-size) row-size l) (rowsIn-drop p n (drop row-size l))
-
 -- The entries of a log after a place stand from the place's row on.
 log-after :
     (l : List ℕ) (p : ℕ)
@@ -81,9 +62,7 @@ log-after l p =
     let table = drop head-size l in
     let long : length (drop p (rowsIn entryOf n table)) ≡ n - p = length-drop p (rowsIn entryOf n table) ∙ ap (λ (m : ℕ). m - p) (rowsIn-length entryOf n table) in
     rw long
-    (rowEntries-is (n - p) (drop (head-size + p * row-size) l)
-    ∙ ap (rowsIn entryOf (n - p)) (sym (drop-drop (p * row-size) head-size l))
-    ∙ sym (rowsIn-drop p n table))
+    (ap (rowsIn entryOf (n - p)) (sym (drop-drop (p * row-size) head-size l)) ∙ sym (rowsIn-drop entryOf p n table))
 
 -- ---- a body with its entries
 
@@ -102,7 +81,7 @@ body-rows :
     (l : List ℕ) (p : ℕ) (body : Body)
     → (let es = entriesOf (bodyWith body (drop p (stateIn l .kept .log))) in
     counts body ≡ length es → rowEntries (counts body) (drop (head-size + p * row-size) l) ≡ es)
-unfolding entriesOf rowEntries
+unfolding entriesOf rowsIn
 body-rows l p (VoteRequest last ballot) e = refl
 body-rows l p (VoteYes last ballot count) e = rw e (log-after l p)
 body-rows l p VoteNo e = refl

@@ -54,7 +54,7 @@ fn speak(
 {
     let term = h.term;
     let from = g.own;
-    let row = step::row_at(after.number());
+    let row = head::row_at(after.number());
     writer::put_message(
         out,
         Fields {
@@ -98,7 +98,7 @@ pub fn start_at(g: Group, state: &mut [u8], out: &mut [u8]) -> u64
     requires { ⌜ Ready (whoIn g) (now state) × (text-room ≤ length (now out)) ⌝ }
     ensures { λ r. ⌜ Gives (start (whoIn g) (stateIn (now (state .entry)))) (now (state .entry)) (now (out .entry)) r (now (state .exit)) (now (out .exit)) ⌝ }
 {
-    let h = state::read_head(state);
+    let h = head::read_head(state);
     if h.role == LEADER {
         return WRONG_ROLE;
     }
@@ -106,7 +106,7 @@ pub fn start_at(g: Group, state: &mut [u8], out: &mut [u8]) -> u64
         return NO_TERM_LEFT;
     }
     step::start_in(g, h, state);
-    let risen = state::read_head(state);
+    let risen = head::read_head(state);
     (ask(g, risen, state, out) as u64) * UPPER
 }
 
@@ -154,7 +154,7 @@ pub fn send_at(g: Group, state: &[u8], peer: u32, prev: u32, out: &mut [u8]) -> 
     requires { ⌜ Ready (whoIn g) (now state) × (text-room ≤ length (now out)) ⌝ }
     ensures { λ r. ⌜ Gives (send (whoIn g) (stateIn (now (state .entry))) peer prev) (now (state .entry)) (now (out .entry)) r (now (state .entry)) (now (out .exit)) ⌝ }
 {
-    let h = state::read_head(state);
+    let h = head::read_head(state);
     if h.role != LEADER {
         return WRONG_ROLE;
     }
@@ -171,7 +171,7 @@ pub fn say_no(g: Group, state: &[u8], to: Hub, out: &mut [u8]) -> usize
     requires { ⌜ Answering (whoIn g) (now state) (to .0) (now out) ⌝ }
     ensures { λ r. ⌜ Said (says (whoIn g) (stateIn (now (state .entry))) (to .0) vote-no) (now (out .entry)) r (now (out .exit)) ⌝ }
 {
-    let h = state::read_head(state);
+    let h = head::read_head(state);
     let length = h.length;
     speak(g, h, state, to, Body::VoteNo, length, out)
 }
@@ -182,7 +182,7 @@ pub fn say_vote(g: Group, state: &[u8], to: Hub, last: Place, ballot: Term, out:
     requires { ⌜ Answering (whoIn g) (now state) (to .0) (now out) × (legalBody (stateIn (now state) .kept .term) (vote-request (last .0) (ballot .0)) ≡ true) ⌝ }
     ensures { λ r. ⌜ Said (says (whoIn g) (stateIn (now (state .entry))) (to .0) (vote (stateIn (now (state .entry)) .kept) (last .0) (ballot .0))) (now (out .entry)) r (now (out .exit)) ⌝ }
 {
-    let h = state::read_head(state);
+    let h = head::read_head(state);
     let own = h.ballot;
     if ballot.below(own) {
         return say_no(g, state, to, out);
@@ -201,7 +201,7 @@ pub fn say_length(g: Group, state: &[u8], to: Hub, out: &mut [u8]) -> usize
     requires { ⌜ Answering (whoIn g) (now state) (to .0) (now out) ⌝ }
     ensures { λ r. ⌜ Said (says (whoIn g) (stateIn (now (state .entry))) (to .0) (append-no (len (stateIn (now (state .entry)))))) (now (out .entry)) r (now (out .exit)) ⌝ }
 {
-    let h = state::read_head(state);
+    let h = head::read_head(state);
     let length = h.length;
     speak(g, h, state, to, Body::AppendNo { length }, length, out)
 }
@@ -211,7 +211,7 @@ pub fn say_end(g: Group, state: &[u8], to: Hub, end: Place, out: &mut [u8]) -> u
     requires { ⌜ Answering (whoIn g) (now state) (to .0) (now out) × (end .0 ≤ limit) ⌝ }
     ensures { λ r. ⌜ Said (says (whoIn g) (stateIn (now (state .entry))) (to .0) (append-yes (end .0))) (now (out .entry)) r (now (out .exit)) ⌝ }
 {
-    let h = state::read_head(state);
+    let h = head::read_head(state);
     let length = h.length;
     speak(g, h, state, to, Body::AppendYes { end }, length, out)
 }

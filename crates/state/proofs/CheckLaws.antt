@@ -18,16 +18,17 @@ use Rattle.command.specs.Entry.{legalEntries}
 use Rattle.command.proofs.WordsLaws.{Bytes, part-length, wordAt-below}
 use Rattle.state.specs.State.{Kept, Lost, follower, candidate, leader, State}
 use Rattle.state.specs.Legal.{all, count, legalKept, legalPair, legalCandidate, legalLeader, legalLost, legalState}
-use Rattle.state.specs.Image.{head-size, row-size, state-size, roleOf, votersOf, gatheredOf, confirmedOf, flags, image, rowsIn, entryOf, pairOf, keptIn, wordsIn, lostIn, stateIn, same, readState, readKept}
+use Rattle.rows.specs.Rows.{row-size, rowsIn, entryOf, rowBytes, entryRow, rowOf}
+use Rattle.state.specs.Image.{head-size, state-size, roleOf, votersOf, gatheredOf, confirmedOf, flags, image, pairOf, keptIn, wordsIn, lostIn, stateIn, same, readState, readKept}
 use Rattle.state.specs.Head.{headIn, isFlag, headOf, keptHead, isNone, votersIn, confirmedIn, followerHead, candidateHead, leaderHead, roleHead}
-use Rattle.state.specs.Table.{rowBytes, entryRow, pairRow, rowsOf, table}
+use Rattle.state.specs.Table.{pairRow, rowsOf, table}
 use Rattle.state.specs.Check.{isSome, legalLog, legalGathered, zeros, checkedHead, checkedTable}
-use Rattle.state.proofs.BoolLaws.{and-first, and-second, and-both, each-holds, same-test}
-use Rattle.state.proofs.ListLaws.{bytesOf-append}
-use Rattle.state.proofs.PartLaws.{drop-bytes}
+use Rattle.rows.proofs.BoolLaws.{and-first, and-second, and-both, each-holds, same-test}
+use Rattle.rows.proofs.ListLaws.{bytesOf-append}
+use Rattle.rows.proofs.PartLaws.{drop-bytes}
 use Rattle.state.proofs.HeadLaws.{flags-are, voter-part, bytes-headIn}
-use Rattle.state.proofs.TableLaws.{rowOf, rowsIn-length, rowsIn-map, bytes-rowsIn}
-use Rattle.state.proofs.LegalLaws.{IsKept, legalKept-is, legalCandidate-is, legalLeader-is, Held, legal-held}
+use Rattle.rows.proofs.RowLaws.{rowsIn-length, rowsIn-map, bytes-rowsIn}
+use Rattle.state.proofs.LegalLaws.{IsKept, is-none, legalKept-is, legalCandidate-is, legalLeader-is, Held, legal-held}
 use Rattle.state.proofs.ImageLaws.{image-is, same-is, is-same, image-head, image-log, image-gathered, image-unused}
 
 -- ---- lists over the seven hubs
@@ -91,7 +92,7 @@ kept-passes : (k : Kept) (l : Lost) → IsKept k → keptHead (headOf k l) ≡ t
 unfolding keptHead headOf
 kept-passes k l i =
     and-both (le-leb (k .ballot) (k .term) (i .ballot))
-    (and-both (le-leb (k .chosen) (length (k .log)) (i .chosen)) (and-both (le-leb (length (k .log)) limit (i .within)) (i .empty)))
+    (and-both (le-leb (k .chosen) (length (k .log)) (i .chosen)) (and-both (le-leb (length (k .log)) limit (i .within)) (is-none (k .ballot) (length (k .log)) (i .empty))))
 
 role-passes : (w : Who) (k : Kept) (l : Lost) → legalLost w k l ≡ true → roleHead w (roleOf l) (headOf k l) ≡ true
 unfolding roleHead followerHead candidateHead leaderHead votersIn headOf roleOf votersOf gatheredOf confirmedOf legalLost all

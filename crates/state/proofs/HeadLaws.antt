@@ -1,14 +1,14 @@
 -- Laws of the head: a head that fits is read back from its bytes; the head that bytes hold has those bytes; the head of a state. Assumes nothing.
 use Prim.Native.Nat.{ℕ, zero, suc, _+_, _*_, _^_, _≤_, _<_}
 use native.Mathlib.Omega.{arith}
-use native.Mathlib.Nat.{zero-add}
+use native.Mathlib.Nat.{add-zero, add-assoc, zero-add}
 use mathlib.Core.Path.{_≡_, refl, sym, _∙_}
 use mathlib.Core.Bool.{Bool, true, false, cond}
 use mathlib.Core.List.{List, [], _∷_, _++_, map, append-assoc}
 use borrow.Author.Tests.{leb-true, le-leb}
 use lib.Dec.{eqb, leb}
 use lib.ListN.{length, take, drop, getD, set, length-append, length-drop, length-map}
-use lib.Seq.{sets, take-add}
+use lib.Seq.{drop-drop, sets, take-add}
 use Rattle.kinds.specs.declared.Place.{Place}
 use Rattle.kinds.specs.Of.{place, term}
 use Rattle.kinds.specs.Sizes.{hubs-most, term-most}
@@ -17,11 +17,12 @@ use Rattle.command.proofs.WordsLaws.{Bytes, word-length, wordAt-word, word-word
 use Rattle.state.specs.declared.Head.{Head}
 use Rattle.state.specs.State.{Kept, Lost}
 use Rattle.state.specs.Legal.{all}
-use Rattle.state.specs.Image.{head-size, confirmedOf, flags, bytesOf, wordsIn, headBytes}
+use Rattle.rows.specs.Rows.{bytesOf}
+use Rattle.state.specs.Image.{head-size, confirmedOf, flags, wordsIn, headBytes}
 use Rattle.state.specs.Head.{headIn, isFlag, placeBytes, bytesOfHead, numberBytes, headOf}
-use Rattle.state.proofs.BoolLaws.{and-first, and-second}
-use Rattle.state.proofs.ListLaws.{sets-then, bytesOf-length, bytesOf-map}
-use Rattle.state.proofs.PartLaws.{part-front, part-behind, part-split, byte-part, wordAt-behind, drop-behind, drop-bytes}
+use Rattle.rows.proofs.BoolLaws.{and-first, and-second}
+use Rattle.rows.proofs.ListLaws.{sets-then, bytesOf-length, bytesOf-map}
+use Rattle.rows.proofs.PartLaws.{wordAt-drop, part-front, part-behind, part-split, byte-part, wordAt-behind, drop-behind, drop-bytes}
 
 -- ---- voters
 
@@ -100,6 +101,13 @@ places-bytes (suc n) l o h =
     let e : suc n * 4 ≡ 4 + n * 4 = omega arith in
     let d = length-drop 4 l in
     rw (e, take-add 4 (n * 4) l, word-wordAt 0 4 l (omega arith) o, places-bytes n (drop 4 l) (drop-bytes 4 l o) (omega arith))
+
+-- Seven numbers of four bytes, as code reads them.
+pub words-seven : (l : List ℕ) (at : ℕ) →
+    wordsIn 7 (drop at l)
+    ≡ wordAt at 4 l ∷ wordAt (at + 4) 4 l ∷ wordAt (at + 8) 4 l ∷ wordAt (at + 12) 4 l ∷ wordAt (at + 16) 4 l ∷ wordAt (at + 20) 4 l ∷ wordAt (at + 24) 4 l ∷ []
+unfolding wordsIn
+words-seven l at = simp (drop-drop, wordAt-drop, add-assoc, add-zero)
 
 -- ---- the whole head
 

@@ -18,14 +18,16 @@ use Rattle.command.specs.Words.{word, part, wordAt}
 use Rattle.state.specs.declared.Head.{Head}
 use Rattle.state.specs.State.{Kept, Lost, follower, candidate, leader, State, fresh}
 use Rattle.state.specs.Legal.{all, legalKept, legalLost, legalState}
-use Rattle.state.specs.Image.{head-size, row-size, state-size, roleOf, votersOf, gatheredOf, confirmedOf, flags, bytesOf, logRow, gatheredRow, headBytes, image, rowsIn, entryOf, pairOf, keptIn, wordsIn, lostIn, stateIn, same, readState, readKept}
+use Rattle.rows.specs.Rows.{row-size, bytesOf, rowsIn, entryOf, Row, rowBytes, entryRow}
+use Rattle.state.specs.Image.{head-size, state-size, roleOf, votersOf, gatheredOf, confirmedOf, flags, logRow, gatheredRow, headBytes, image, pairOf, keptIn, wordsIn, lostIn, stateIn, same, readState, readKept}
 use Rattle.state.specs.Head.{headIn, bytesOfHead, headOf}
-use Rattle.state.specs.Table.{Row, rowBytes, entryRow, pairRow, rowsOf, table}
-use Rattle.state.proofs.BoolLaws.{and-first, and-second, and-both}
-use Rattle.state.proofs.ListLaws.{bytesOf-append, bytesOf-map}
-use Rattle.state.proofs.PartLaws.{drop-behind, wordAt-drop, part-drop}
+use Rattle.state.specs.Table.{pairRow, rowsOf, table}
+use Rattle.rows.proofs.BoolLaws.{and-first, and-second, and-both}
+use Rattle.rows.proofs.ListLaws.{bytesOf-append, bytesOf-map}
+use Rattle.rows.proofs.PartLaws.{drop-behind, wordAt-drop, part-drop}
 use Rattle.state.proofs.HeadLaws.{bytesOfHead-length, headIn-bytes, headBytes-is}
-use Rattle.state.proofs.TableLaws.{rowFits, row-number, row-part-command, rowsIn-bytes, rows-length, entries-back, pairs-back, table-length, table-row}
+use Rattle.rows.proofs.RowLaws.{rowFits, row-number, row-part-command, rowsIn-bytes, rows-length, entries-back}
+use Rattle.state.proofs.TableLaws.{pairs-back, table-length, table-row}
 use Rattle.state.proofs.LegalLaws.{Held, legal-held, all-member, all-append}
 
 -- ---- the parts of an image

@@ -14,14 +14,16 @@ use Rattle.command.specs.Command.{commandBytes}
 use Rattle.command.proofs.WordsLaws.{Bytes, word-length}
 use Rattle.state.specs.State.{Kept, follower, State}
 use Rattle.state.specs.Legal.{legalKept, legalLost, legalState}
-use Rattle.state.specs.Image.{head-size, row-size, state-size, votersOf, gatheredOf, confirmedOf, bytesOf, row, image, entryOf, keptIn, readKept}
+use Rattle.rows.specs.Rows.{row-size, bytesOf, row, entryOf, Row, rowBytes, entryRow, rowOf}
+use Rattle.state.specs.Image.{head-size, state-size, votersOf, gatheredOf, confirmedOf, image, keptIn, readKept}
 use Rattle.state.specs.Head.{bytesOfHead, headOf}
-use Rattle.state.specs.Table.{Row, rowBytes, entryRow, rowsOf, table}
-use Rattle.state.proofs.BoolLaws.{and-both}
-use Rattle.state.proofs.ListLaws.{sets-skip, sets-front, sets-last}
-use Rattle.state.proofs.PartLaws.{drop-bytes}
+use Rattle.state.specs.Table.{rowsOf, table}
+use Rattle.rows.proofs.BoolLaws.{and-both}
+use Rattle.rows.proofs.ListLaws.{sets-skip, sets-front, sets-last}
+use Rattle.rows.proofs.PartLaws.{drop-bytes}
 use Rattle.state.proofs.HeadLaws.{bytesOfHead-length}
-use Rattle.state.proofs.TableLaws.{rowOf, rows-length, rowBytes-length, rowsIn-length, rowsIn-map, bytes-rowsIn, table-length, table-put, table-clear, table-row}
+use Rattle.rows.proofs.RowLaws.{rows-length, rowBytes-length, rowsIn-length, rowsIn-map, bytes-rowsIn}
+use Rattle.state.proofs.TableLaws.{table-length, table-put, table-clear, table-row}
 use Rattle.state.proofs.LegalLaws.{Held, legalKept-is}
 use Rattle.state.proofs.ImageLaws.{image-is, readKept-sound}
 

@@ -1,11 +1,12 @@
--- What legality says, part by part: the kept parts, a candidate, a leader; and that a legal state's numbers and rows fit their bytes. Assumes nothing.
+-- What legality says, part by part, and that these parts are all of it: the kept parts, a candidate, a leader; and that a legal state's numbers and rows
+-- fit their bytes. Assumes nothing.
 use Prim.Native.Nat.{ℕ, zero, suc, _+_, _-_, _≤_, _<_}
 use native.Mathlib.Omega.{arith}
 use native.Mathlib.Numerals.{add-one}
 use mathlib.Core.Path.{_≡_, refl, _∙_}
 use mathlib.Core.Bool.{Bool, true, false, cond, not, _||_}
 use mathlib.Core.List.{List, [], _∷_, map, _++_}
-use borrow.Author.Tests.{eqb-true, leb-true, ltb-true, le-leb}
+use borrow.Author.Tests.{eqb-true, leb-true, ltb-true, eq-eqb, le-leb, lt-ltb, eqb-false, not-true, not-false}
 use lib.Dec.{eqb, leb, ltb}
 use lib.ListN.{length, drop, getD, length-append, length-map, drop-of-length-le}
 use lib.Seq.{drop-cons}
@@ -16,10 +17,12 @@ use Rattle.state.specs.State.{Kept, Pair, Lost, follower, candidate, lea
 use Rattle.state.specs.Legal.{all, count, legalKept, legalPair, legalCandidate, legalLeader, legalLost, legalState}
 use Rattle.state.specs.Image.{votersOf, gatheredOf, confirmedOf}
 use Rattle.state.specs.Head.{headOf}
-use Rattle.state.specs.Table.{entryRow, pairRow, rowsOf}
-use Rattle.state.proofs.BoolLaws.{and-first, and-second, and-both, each-holds}
+use Rattle.rows.specs.Rows.{entryRow}
+use Rattle.state.specs.Table.{pairRow, rowsOf}
+use Rattle.rows.proofs.BoolLaws.{and-first, and-second, and-both, each-holds, or-either, or-one}
 use Rattle.state.proofs.HeadLaws.{Fits, placeFits}
-use Rattle.state.proofs.TableLaws.{rowFits, entries-fit, pairs-fit}
+use Rattle.rows.proofs.RowLaws.{rowFits, entries-fit}
+use Rattle.state.proofs.TableLaws.{pairs-fit}
 
 -- What is needed of the limit: four bytes hold it.
 pub limit-fits : limit ≤ term-most
@@ -80,36 +83,57 @@ unfolding all
 all-append P [] ys p q = q
 all-append P (x ∷ xs) ys p q = and-both (and-first (P x) (all P xs) p) (all-append P xs ys (and-second (P x) (all P xs) p) q)
 
--- ---- each test of a conjunction
+-- ---- none without a ballot
 
--- The tests of the kept parts.
+-- Where the ballot is 0 there is nothing.
+pub none-is : (b n : ℕ) → (not (eqb b 0) || eqb n 0) ≡ true → b ≡ 0 → n ≡ 0
+none-is b n h e =
+    or-either (not (eqb b 0)) (eqb n 0) h (λ t. absurd (eqb-false b 0 (not-true (eqb b 0) t) e)) (λ t. eqb-true n 0 t)
+
+-- And the other way.
+pub is-none : (b n : ℕ) → (b ≡ 0 → n ≡ 0) → (not (eqb b 0) || eqb n 0) ≡ true
+is-none b n f = or-one (not (eqb b 0)) (eqb n 0) (λ t. eq-eqb n 0 (f (eqb-true b 0 (not-false (eqb b 0) t))))
+
+-- ---- the kept parts
+
+-- The tests of the kept parts, as facts.
 pub record IsKept (k : Kept) : Type 0 where
   pub term : k .term ≤ term-most
   pub ballot : k .ballot ≤ k .term
   pub chosen : k .chosen ≤ length (k .log)
   pub within : length (k .log) ≤ limit
-  pub empty : (not (eqb (k .ballot) 0) || eqb (length (k .log)) 0) ≡ true
+  pub empty : k .ballot ≡ 0 → length (k .log) ≡ 0
   pub entries : legalEntries 1 (k .ballot) (k .log) ≡ true
 
--- Legal kept parts pass each test.
+-- Legal kept parts pass each of them.
 pub legalKept-is : (k : Kept) → legalKept k ≡ true → IsKept k
 unfolding legalKept
 legalKept-is k h =
     let n = length (k .log) in
-    let tests : List Bool =
-    leb (k .term) term-most ∷ leb (k .ballot) (k .term) ∷ leb (k .chosen) n ∷ leb n limit ∷ (not (eqb (k .ballot) 0) || eqb n 0)
-    ∷ legalEntries 1 (k .ballot) (k .log) ∷ [] in
-    let t = each-holds tests h in
+    let none = not (eqb (k .ballot) 0) || eqb n 0 in
+    let entries = legalEntries 1 (k .ballot) (k .log) in
+    let t = each-holds (leb (k .term) term-most ∷ leb (k .ballot) (k .term) ∷ leb (k .chosen) n ∷ leb n limit ∷ none ∷ entries ∷ []) h in
     record {
       term = leb-true _ _ (t 0);
       ballot = leb-true _ _ (t 1);
       chosen = leb-true _ _ (t 2);
       within = leb-true _ _ (t 3);
-      empty = t 4;
+      empty = none-is (k .ballot) n (t 4);
       entries = t 5;
     }
 
--- The tests of a candidate.
+-- There are no others.
+pub is-legalKept : (k : Kept) → IsKept k → legalKept k ≡ true
+unfolding legalKept
+is-legalKept k i =
+    and-both (le-leb _ _ (i .term))
+    (and-both (le-leb _ _ (i .ballot))
+    (and-both (le-leb _ _ (i .chosen))
+    (and-both (le-leb _ _ (i .within)) (and-both (is-none (k .ballot) (length (k .log)) (i .empty)) (i .entries)))))
+
+-- ---- a candidate
+
+-- The tests of what a candidate holds, as facts.
 pub record IsCandidate (w : Who) (k : Kept) (voters : List Bool) (gathered : List Pair) : Type 0 where
   pub ballot : k .ballot < k .term
   pub seven : length voters ≡ hubs-most
@@ -119,16 +143,17 @@ pub record IsCandidate (w : Who) (k : Kept) (voters : List Bool) (gathered : Lis
   pub room : length (k .log) + length gathered ≤ limit
   pub pairs : all (legalPair (k .term)) gathered ≡ true
 
--- So does a legal candidate.
-pub legalCandidate-is : (w : Who) (k : Kept) (voters : List Bool) (gathered : List Pair) →
-    legalCandidate w k voters gathered ≡ true →
-    IsCandidate w k voters gathered
+-- A legal candidate passes each of them.
+pub legalCandidate-is :
+    (w : Who) (k : Kept) (voters : List Bool) (gathered : List Pair) → legalCandidate w k voters gathered ≡ true → IsCandidate w k voters gathered
 unfolding legalCandidate
 legalCandidate-is w k voters gathered h =
-    let tests : List Bool =
-    ltb (k .ballot) (k .term) ∷ eqb (length voters) hubs-most ∷ getD voters (w .own - 1) false ∷ ltb (count (λ v. v) voters) (majority (w .size))
-    ∷ all not (drop (w .size) voters) ∷ leb (length (k .log) + length gathered) limit ∷ all (legalPair (k .term)) gathered ∷ [] in
-    let t = each-holds tests h in
+    let itself = getD voters (w .own - 1) false in
+    let few = ltb (count (λ v. v) voters) (majority (w .size)) in
+    let inside = all not (drop (w .size) voters) in
+    let room = leb (length (k .log) + length gathered) limit in
+    let pairs = all (legalPair (k .term)) gathered in
+    let t = each-holds (ltb (k .ballot) (k .term) ∷ eqb (length voters) hubs-most ∷ itself ∷ few ∷ inside ∷ room ∷ pairs ∷ []) h in
     record {
       ballot = ltb-true _ _ (t 0);
       seven = eqb-true _ _ (t 1);
@@ -139,7 +164,19 @@ legalCandidate-is w k voters gathered h =
       pairs = t 6;
     }
 
--- The tests of a leader.
+-- There are no others.
+pub is-legalCandidate :
+    (w : Who) (k : Kept) (voters : List Bool) (gathered : List Pair) → IsCandidate w k voters gathered → legalCandidate w k voters gathered ≡ true
+unfolding legalCandidate
+is-legalCandidate w k voters gathered i =
+    and-both (lt-ltb _ _ (i .ballot))
+    (and-both (eq-eqb _ _ (i .seven))
+    (and-both (i .itself)
+    (and-both (lt-ltb _ _ (i .few)) (and-both (i .inside) (and-both (le-leb _ _ (i .room)) (i .pairs))))))
+
+-- ---- a leader
+
+-- The tests of what a leader holds, as facts.
 pub record IsLeader (w : Who) (k : Kept) (confirmed : List ℕ) : Type 0 where
   pub ballot : k .ballot ≡ k .term
   pub term : 1 ≤ k .term
@@ -148,15 +185,15 @@ pub record IsLeader (w : Who) (k : Kept) (confirmed : List ℕ) : Type 0 where
   pub itself : getD confirmed (w .own - 1) 0 ≡ length (k .log)
   pub inside : all (λ n. eqb n 0) (drop (w .size) confirmed) ≡ true
 
--- And a legal leader.
+-- A legal leader passes each of them.
 pub legalLeader-is : (w : Who) (k : Kept) (confirmed : List ℕ) → legalLeader w k confirmed ≡ true → IsLeader w k confirmed
 unfolding legalLeader
 legalLeader-is w k confirmed h =
     let n = length (k .log) in
-    let tests : List Bool =
-    eqb (k .ballot) (k .term) ∷ leb 1 (k .term) ∷ eqb (length confirmed) hubs-most ∷ all (λ m. leb m n) confirmed
-    ∷ eqb (getD confirmed (w .own - 1) 0) n ∷ all (λ m. eqb m 0) (drop (w .size) confirmed) ∷ [] in
-    let t = each-holds tests h in
+    let most = all (λ m. leb m n) confirmed in
+    let itself = eqb (getD confirmed (w .own - 1) 0) n in
+    let inside = all (λ m. eqb m 0) (drop (w .size) confirmed) in
+    let t = each-holds (eqb (k .ballot) (k .term) ∷ leb 1 (k .term) ∷ eqb (length confirmed) hubs-most ∷ most ∷ itself ∷ inside ∷ []) h in
     record {
       ballot = eqb-true _ _ (t 0);
       term = leb-true _ _ (t 1);
@@ -165,6 +202,45 @@ legalLeader-is w k confirmed h =
       itself = eqb-true _ _ (t 4);
       inside = t 5;
     }
+
+-- There are no others.
+pub is-legalLeader : (w : Who) (k : Kept) (confirmed : List ℕ) → IsLeader w k confirmed → legalLeader w k confirmed ≡ true
+unfolding legalLeader
+is-legalLeader w k confirmed i =
+    and-both (eq-eqb _ _ (i .ballot))
+    (and-both (le-leb _ _ (i .term))
+    (and-both (eq-eqb _ _ (i .seven)) (and-both (i .most) (and-both (eq-eqb _ _ (i .itself)) (i .inside)))))
+
+-- ---- a state
+
+-- The kept parts of a legal state.
+pub legalState-kept : (w : Who) (s : State) → legalState w s ≡ true → IsKept (s .kept)
+unfolding legalState
+legalState-kept w s h = legalKept-is (s .kept) (and-first (legalKept (s .kept)) (legalLost w (s .kept) (s .lost)) h)
+
+-- Its lost parts.
+pub legalState-lost : (w : Who) (s : State) → legalState w s ≡ true → legalLost w (s .kept) (s .lost) ≡ true
+unfolding legalState
+legalState-lost w s h = and-second (legalKept (s .kept)) (legalLost w (s .kept) (s .lost)) h
+
+-- A follower with legal kept parts.
+pub follower-legal : (w : Who) (k : Kept) → IsKept k → legalState w (record { kept = k; lost = follower }) ≡ true
+unfolding legalState legalLost
+follower-legal w k i = and-both (is-legalKept k i) refl
+
+-- A candidate.
+pub candidate-legal :
+    (w : Who) (k : Kept) (voters : List Bool) (gathered : List Pair)
+    → IsKept k → IsCandidate w k voters gathered → legalState w (record { kept = k; lost = candidate voters gathered }) ≡ true
+unfolding legalState legalLost
+candidate-legal w k voters gathered i c = and-both (is-legalKept k i) (is-legalCandidate w k voters gathered c)
+
+-- A leader.
+pub leader-legal :
+    (w : Who) (k : Kept) (confirmed : List ℕ) → IsKept k → IsLeader w k confirmed
+    → legalState w (record { kept = k; lost = leader confirmed }) ≡ true
+unfolding legalState legalLost
+leader-legal w k confirmed i c = and-both (is-legalKept k i) (is-legalLeader w k confirmed c)
 
 -- ---- a legal state fits its bytes
 
@@ -225,8 +301,4 @@ legal-lost w k (leader confirmed) i h =
 
 -- A legal state fits its bytes.
 pub legal-held : (w : Who) (s : State) → legalState w s ≡ true → Held s
-unfolding legalState
-legal-held w s h =
-    let kept = legalKept (s .kept) in
-    let lost = legalLost w (s .kept) (s .lost) in
-    legal-lost w (s .kept) (s .lost) (legalKept-is (s .kept) (and-first kept lost h)) (and-second kept lost h)
+legal-held w s h = legal-lost w (s .kept) (s .lost) (legalState-kept w s h) (legalState-lost w s h)

@@ -1,10 +1,6 @@
-pub mod BoolLaws
-pub mod ListLaws
-pub mod PartLaws
 pub mod HeadLaws
 pub mod TableLaws
 pub mod LegalLaws
 pub mod ImageLaws
 pub mod ImageWrites
 pub mod CheckLaws
-pub mod CheckSteps

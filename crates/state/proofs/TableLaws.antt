@@ -1,148 +1,34 @@
--- Laws of the table of rows: its length, rows that are read back and written, and what a write of rows or of zeros makes of it.
+-- Laws of the table of rows: gathered pairs as rows, its length, and what a write of rows or of zeros makes of it.
 -- The limit is a symbol here. Assumes nothing.
 use Prim.Native.Nat.{ℕ, zero, suc, _+_, _-_, _*_, _≤_, _<_}
 use native.Mathlib.Omega.{arith}
 use native.Mathlib.Numerals.{add-one}
 use native.Mathlib.Nat.{zero-add, sub-zero, zero-sub, suc-sub-suc}
 use mathlib.Core.Path.{_≡_, refl, _∙_, ap}
-use mathlib.Core.Bool.{Bool, true, _&&_}
-use mathlib.Core.List.{List, [], _∷_, _++_, map, append-assoc, append-nil}
-use borrow.Author.Tests.{leb-true, ltb-true, le-leb}
+use mathlib.Core.Bool.{true, _&&_}
+use mathlib.Core.List.{List, [], _∷_, _++_, map, append-assoc}
+use borrow.Author.Tests.{ltb-true, le-leb}
 use lib.Dec.{leb, ltb}
 use lib.ListN.{length, take, drop, getD, replicate, length-append, length-drop, length-replicate, take-append-drop, replicate-append-replicate, drop-of-length-le}
-use lib.Seq.{sets, sets-eq, drop-drop, take-add, length-take-le, drop-cons}
-use Rattle.kinds.specs.Sizes.{between, limit, term-most}
-use Rattle.command.specs.Words.{word, part, wordAt}
-use Rattle.command.specs.Command.{Command, command-size, legalCommand, commandBytes, commandOf}
-use Rattle.command.specs.Entry.{Entry, legalEntries}
-use Rattle.command.proofs.WordsLaws.{Bytes, word-length, wordAt-word, word-wordAt, part-length, part-bytes}
-use Rattle.command.proofs.CommandLaws.{commandBytes-length, commandOf-bytes, commandBytes-of, legal-ranged}
+use lib.Seq.{sets, sets-eq, drop-drop, length-take-le, drop-cons}
+use Rattle.kinds.specs.Sizes.{limit, term-most}
+use Rattle.command.specs.Command.{legalCommand}
 use Rattle.state.specs.State.{Pair}
 use Rattle.state.specs.Legal.{all, legalPair}
-use Rattle.state.specs.Image.{row-size, bytesOf, row, rowsIn, entryOf, pairOf}
-use Rattle.state.specs.Table.{Row, rowBytes, entryRow, pairRow, table}
-use Rattle.state.proofs.BoolLaws.{and-first, and-second, and-both}
-use Rattle.state.proofs.ListLaws.{sets-skip, bytesOf-append, bytesOf-length}
-use Rattle.state.proofs.PartLaws.{part-front, part-behind, part-split, drop-behind, drop-bytes}
+use Rattle.rows.specs.Rows.{row-size, bytesOf, row, Row, rowBytes}
+use Rattle.state.specs.Image.{pairOf}
+use Rattle.state.specs.Table.{pairRow, table}
+use Rattle.rows.proofs.RowLaws.{rowBytes-length, rows-length, rowFits}
+use Rattle.rows.proofs.BoolLaws.{and-first, and-second, and-both}
+use Rattle.rows.proofs.ListLaws.{sets-skip, bytesOf-append}
+use Rattle.rows.proofs.PartLaws.{drop-behind}
 
--- ---- rows
+-- ---- gathered pairs as rows
 
--- A row has 20 bytes.
-pub rowBytes-length : (r : Row) → length (rowBytes r) ≡ row-size
-unfolding row
-rowBytes-length r = simp (length-append, word-length, commandBytes-length)
-
--- Rows have 20 bytes each.
-pub rows-length : (rs : List Row) → length (bytesOf rowBytes rs) ≡ length rs * row-size
-rows-length rs = bytesOf-length rowBytes row-size rowBytes-length rs
-
--- A row that its bytes hold: a number of four bytes, and a legal command.
-unfoldable pub rowFits : Row → Bool
-rowFits r = leb (r .number) term-most && legalCommand (r .command)
-
--- The command's bytes of a row, whatever stands behind it.
-pub row-part-command : (r : Row) (rest : List ℕ) → part 4 command-size (rowBytes r ++ rest) ≡ commandBytes (r .command)
-unfolding row
-row-part-command r rest =
-    rw (
-      append-assoc (word 4 (r .number)) (commandBytes (r .command)) rest,
-      part-behind 4 0 command-size (word 4 (r .number)) (commandBytes (r .command) ++ rest) (word-length 4 (r .number)),
-    )
-    (part-front (commandBytes (r .command)) rest command-size (commandBytes-length (r .command)))
-
-module _ (r : Row) (rest : List ℕ) (f : rowFits r ≡ true) where
-  -- A row that fits gives back its number.
-  pub row-number : wordAt 0 4 (rowBytes r ++ rest) ≡ r .number
-  unfolding row rowFits
-  row-number =
-      let fits = leb-true (r .number) term-most (and-first (leb (r .number) term-most) (legalCommand (r .command)) f) in
-      rw (append-assoc (word 4 (r .number)) (commandBytes (r .command)) rest)
-      (wordAt-word 4 (r .number) (commandBytes (r .command) ++ rest) (omega arith))
-
-  row-command : commandOf (part 4 command-size (rowBytes r ++ rest)) ≡ r .command
-  unfolding rowFits
-  row-command =
-      let legal = and-second (leb (r .number) term-most) (legalCommand (r .command)) f in
-      rw (row-part-command r rest) (rw append-nil at (commandOf-bytes (r .command) [] (legal-ranged (r .command) legal)))
-
-module _ {A : Type 0} (make : ℕ → Command → A) where
-  -- As many members as rows.
-  pub rowsIn-length : (n : ℕ) (l : List ℕ) → length (rowsIn make n l) ≡ n
-  unfolding rowsIn
-  rowsIn-length zero l = refl
-  rowsIn-length (suc n) l = ap suc (rowsIn-length n (drop row-size l))
-
-  -- Members made of rows' members.
-  pub rowsIn-map : {B : Type 0} (f : A → B) (n : ℕ) (l : List ℕ) → map f (rowsIn make n l) ≡ rowsIn (λ x c. f (make x c)) n l
-  unfolding rowsIn
-  rowsIn-map f zero l = refl
-  rowsIn-map f (suc n) l = rw (rowsIn-map f n (drop row-size l))
-
-  -- Rows are read back from their bytes, whatever stands behind them.
-  pub rowsIn-bytes : (rs : List Row) (rest : List ℕ) →
-      all rowFits rs ≡ true →
-      rowsIn make (length rs) (bytesOf rowBytes rs ++ rest) ≡ map (λ r. make (r .number) (r .command)) rs
-  unfolding rowsIn bytesOf all
-  rowsIn-bytes [] rest f = refl
-  rowsIn-bytes (r ∷ rs) rest f =
-      let more : List ℕ = bytesOf rowBytes rs ++ rest in
-      let fits = and-first (rowFits r) (all rowFits rs) f in
-      let next = rowsIn-bytes rs rest (and-second (rowFits r) (all rowFits rs) f) in
-      rw (
-        append-assoc (rowBytes r) (bytesOf rowBytes rs) rest,
-        row-number r more fits,
-        row-command r more fits,
-        drop-behind row-size 0 (rowBytes r) more (rowBytes-length r),
-        next,
-      )
-
--- The row of a number and a command.
-abbrev pub rowOf : ℕ → Command → Row
-rowOf n c = record { number = n; command = c }
-
-row-part : (l : List ℕ) → Bytes l → row-size ≤ length l → rowBytes (rowOf (wordAt 0 4 l) (commandOf (part 4 command-size l))) ≡ part 0 row-size l
-unfolding row
-row-part l o h =
-    rw (
-      part-split l 0 4 command-size,
-      word-wordAt 0 4 l (omega arith) o,
-      commandBytes-of (part 4 command-size l) (part-length 4 command-size l (omega arith)) (part-bytes 4 command-size l (omega arith) o),
-    )
-
--- The rows that bytes hold have those bytes.
-pub bytes-rowsIn : (n : ℕ) (l : List ℕ) → Bytes l → n * row-size ≤ length l → bytesOf rowBytes (rowsIn rowOf n l) ≡ take (n * row-size) l
-unfolding rowsIn bytesOf part
-bytes-rowsIn zero l o h = refl
-bytes-rowsIn (suc n) l o h =
-    let e : suc n * row-size ≡ row-size + n * row-size = omega arith in
-    let d = length-drop row-size l in
-    rw (e, take-add row-size (n * row-size) l, row-part l o (omega arith), bytes-rowsIn n (drop row-size l) (drop-bytes row-size l o) (omega arith))
-
--- ---- entries and pairs as rows
-
--- Entries are made again of their rows.
-pub entries-back : (es : List Entry) → map (λ r. entryOf (r .number) (r .command)) (map entryRow es) ≡ es
-entries-back [] = refl
-entries-back (e ∷ es) = rw (entries-back es)
-
--- So are gathered pairs.
+-- Gathered pairs are made again of their rows.
 pub pairs-back : (gs : List Pair) → map (λ r. pairOf (r .number) (r .command)) (map pairRow gs) ≡ gs
 pairs-back [] = refl
 pairs-back (g ∷ gs) = rw (pairs-back gs)
-
--- Legal entries fit their rows.
-pub entries-fit : (low high : ℕ) (es : List Entry) → legalEntries low high es ≡ true → high ≤ term-most → all rowFits (map entryRow es) ≡ true
-unfolding legalEntries all rowFits between
-entries-fit low high [] h m = refl
-entries-fit low high (e ∷ es) h m =
-    let t = e .term in
-    let own = leb low t && leb t high in
-    let rest = legalCommand (e .command) && legalEntries t high es in
-    let below = leb-true t high (and-second (leb low t) (leb t high) (and-first own rest h)) in
-    let later = and-second own rest h in
-    and-both
-    (and-both (le-leb t term-most (omega arith)) (and-first (legalCommand (e .command)) (legalEntries t high es) later))
-    (entries-fit t high es (and-second (legalCommand (e .command)) (legalEntries t high es) later) m)
 
 -- Legal gathered pairs fit their rows.
 pub pairs-fit : (term : ℕ) (gs : List Pair) → all (legalPair term) gs ≡ true → term ≤ term-most → all rowFits (map pairRow gs) ≡ true

@@ -11,7 +11,8 @@ use Rattle.kinds.specs.Sizes.{Who, hubs-most, limit}
 use Rattle.command.specs.Words.{part}
 use Rattle.command.specs.Entry.{legalEntries}
 use Rattle.state.specs.Legal.{all, legalPair}
-use Rattle.state.specs.Image.{head-size, row-size, state-size, rowsIn, entryOf, pairOf}
+use Rattle.rows.specs.Rows.{row-size, rowsIn, entryOf}
+use Rattle.state.specs.Image.{head-size, state-size, pairOf}
 use Rattle.state.specs.Head.{headIn, isFlag, keptHead, roleHead}
 
 -- Whether there is one.

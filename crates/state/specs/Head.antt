@@ -12,7 +12,8 @@ use Rattle.command.specs.Words.{word, part, wordAt}
 use Rattle.state.specs.declared.Head.{Head}
 use Rattle.state.specs.State.{Kept, Lost}
 use Rattle.state.specs.Legal.{all, count}
-use Rattle.state.specs.Image.{roleOf, votersOf, gatheredOf, confirmedOf, flags, bytesOf, wordsIn}
+use Rattle.rows.specs.Rows.{bytesOf}
+use Rattle.state.specs.Image.{roleOf, votersOf, gatheredOf, confirmedOf, flags, wordsIn}
 
 -- ---- bytes
 

@@ -8,8 +8,9 @@ use lib.Dec.{eqb}
 use lib.ListN.{length, drop, replicate}
 use Rattle.kinds.specs.Sizes.{Who, hubs-most, limit}
 use Rattle.command.specs.Words.{word, part, wordAt}
-use Rattle.command.specs.Command.{Command, command-size, commandBytes, commandOf}
+use Rattle.command.specs.Command.{Command}
 use Rattle.command.specs.Entry.{Entry}
+use Rattle.rows.specs.Rows.{row-size, bytesOf, row, rowsIn, entryOf}
 use Rattle.state.specs.State.{Kept, Pair, Lost, follower, candidate, leader, State, reportedAt}
 use Rattle.state.specs.Legal.{legalKept, legalState}
 
@@ -17,9 +18,6 @@ use Rattle.state.specs.Legal.{legalKept, legalState}
 
 abbrev pub head-size : ℕ
 head-size = 56
-
-abbrev pub row-size : ℕ
-row-size = 20
 
 -- All of a state's bytes.
 unfoldable pub state-size : ℕ
@@ -53,15 +51,6 @@ confirmedOf (leader confirmed) = confirmed
 unfoldable pub flags : List Bool → List ℕ
 flags bs = map (λ b. cond b 1 0) bs
 
--- The bytes of a list's members, one after the other.
-unfoldable pub bytesOf : {A : Type 0} → (A → List ℕ) → List A → List ℕ
-bytesOf f [] = []
-bytesOf f (x ∷ xs) = f x ++ bytesOf f xs
-
--- A row of the table: four bytes of term or ballot, and the command.
-unfoldable pub row : ℕ → Command → List ℕ
-row n c = word 4 n ++ commandBytes c
-
 abbrev pub logRow : Entry → List ℕ
 logRow e = row (e .term) (e .command)
 
@@ -88,14 +77,6 @@ image s =
     ++ replicate ((limit - (length (k .log) + length (gatheredOf l))) * row-size) 0))
 
 -- ---- and the state of bytes
-
--- The rows of n members, each made of its number and its command.
-unfoldable pub rowsIn : {A : Type 0} → (ℕ → Command → A) → ℕ → List ℕ → List A
-rowsIn make zero l = []
-rowsIn make (suc n) l = make (wordAt 0 4 l) (commandOf (part 4 command-size l)) ∷ rowsIn make n (drop row-size l)
-
-abbrev pub entryOf : ℕ → Command → Entry
-entryOf n c = record { term = n; command = c }
 
 abbrev pub pairOf : ℕ → Command → Pair
 pairOf n c = record { ballot = n; command = c }

@@ -3,23 +3,9 @@ use Prim.Native.Nat.{ℕ, _-_, _*_}
 use mathlib.Core.List.{List, _++_, map}
 use lib.ListN.{length, replicate}
 use Rattle.kinds.specs.Sizes.{limit}
-use Rattle.command.specs.Command.{Command}
-use Rattle.command.specs.Entry.{Entry}
 use Rattle.state.specs.State.{Pair, State}
-use Rattle.state.specs.Image.{gatheredOf, bytesOf, row, row-size}
-
--- A row: an entry's term or a gathered pair's ballot, and the command.
-pub record Row : Type 0 where
-  pub number : ℕ
-  pub command : Command
-
--- Its bytes.
-abbrev pub rowBytes : Row → List ℕ
-rowBytes r = row (r .number) (r .command)
-
--- The row of an entry.
-abbrev pub entryRow : Entry → Row
-entryRow e = record { number = e .term; command = e .command }
+use Rattle.rows.specs.Rows.{row-size, bytesOf, Row, rowBytes, entryRow}
+use Rattle.state.specs.Image.{gatheredOf}
 
 -- The row of a gathered pair.
 abbrev pub pairRow : Pair → Row

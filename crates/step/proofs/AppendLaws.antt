@@ -12,9 +12,10 @@ use Rattle.command.specs.Words.{wordAt}
 use Rattle.command.specs.Entry.{Entry}
 use Rattle.state.specs.declared.Head.{Head}
 use Rattle.state.specs.State.{Kept}
-use Rattle.state.specs.Image.{head-size, row-size, state-size, rowsIn, entryOf, keptIn, stateIn}
+use Rattle.rows.specs.Rows.{row-size, rowsIn, entryOf}
+use Rattle.state.specs.Image.{head-size, state-size, keptIn, stateIn}
 use Rattle.state.specs.Head.{headIn}
-use Rattle.state.proofs.PartLaws.{wordAt-drop}
+use Rattle.rows.proofs.PartLaws.{wordAt-drop}
 use Rattle.rules.specs.Events.{termAt}
 use Rattle.rules.specs.Receive.{fits}
 use Rattle.step.specs.Append.{follows, Tested}

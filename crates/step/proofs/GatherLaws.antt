@@ -10,8 +10,9 @@ use lib.Seq.{sets}
 use Rattle.kinds.specs.Sizes.{limit}
 use Rattle.command.specs.Entry.{Entry}
 use Rattle.state.specs.State.{Pair}
-use Rattle.state.specs.Image.{head-size, row-size, row}
-use Rattle.state.specs.Table.{Row, pairRow, table}
+use Rattle.rows.specs.Rows.{row-size, row, Row}
+use Rattle.state.specs.Image.{head-size}
+use Rattle.state.specs.Table.{pairRow, table}
 use Rattle.rules.specs.Receive.{gather}
 use Rattle.step.specs.Gather.{gatheredInto}
 use Rattle.step.proofs.RowLaws.{row-last, row-over, row-number-at}

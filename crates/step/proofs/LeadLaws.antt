@@ -11,18 +11,20 @@ use Rattle.command.specs.Words.{word}
 use Rattle.command.specs.Entry.{Entry}
 use Rattle.command.proofs.WordsLaws.{word-length}
 use Rattle.state.specs.State.{Kept, Pair, Lost, State}
-use Rattle.state.specs.Image.{head-size, row-size, roleOf, votersOf, gatheredOf, confirmedOf, image}
+use Rattle.rows.specs.Rows.{row-size, Row, rowBytes, entryRow, rowOf}
+use Rattle.state.specs.Image.{head-size, roleOf, votersOf, gatheredOf, confirmedOf, image}
 use Rattle.state.specs.Head.{bytesOfHead, headOf}
-use Rattle.state.specs.Table.{Row, rowBytes, entryRow, pairRow, rowsOf, table}
-use Rattle.state.proofs.ListLaws.{sets-skip, sets-front}
+use Rattle.state.specs.Table.{pairRow, rowsOf, table}
+use Rattle.rows.proofs.ListLaws.{sets-skip, sets-front}
 use Rattle.state.proofs.HeadLaws.{bytesOfHead-length}
-use Rattle.state.proofs.TableLaws.{rowOf, rowBytes-length, table-length}
+use Rattle.rows.proofs.RowLaws.{rowBytes-length}
+use Rattle.state.proofs.TableLaws.{table-length}
 use Rattle.state.proofs.ImageLaws.{image-is}
 use Rattle.state.proofs.ImageWrites.{table-renumbered}
 use Rattle.rules.specs.Events.{leads}
 use Rattle.rules.specs.Receive.{joined}
 use Rattle.step.specs.Heads.{leading}
-use Rattle.step.specs.Words.{renumbered}
+use Rattle.rows.specs.Words.{renumbered}
 use Rattle.step.proofs.HeadsLaws.{places-set}
 use Rattle.step.proofs.RowLaws.{row-over}
 

@@ -1,6 +1,5 @@
 pub mod PromiseLaws
 pub mod GateLaws
-pub mod WordsLaws
 pub mod ClearLaws
 pub mod HeadsLaws
 pub mod LostLaws

@@ -15,20 +15,19 @@ use Rattle.command.proofs.WordsLaws.{Bytes}
 use Rattle.state.specs.declared.Head.{Head}
 use Rattle.state.specs.State.{Kept, Lost, follower, candidate, leader, State}
 use Rattle.state.specs.Legal.{legalState}
-use Rattle.state.specs.Image.{head-size, row-size, state-size, gatheredOf, votersOf, confirmedOf, roleOf, image, entryOf, keptIn, stateIn, readKept}
+use Rattle.rows.specs.Rows.{row-size, entryOf, Row, entryRow}
+use Rattle.state.specs.Image.{head-size, state-size, gatheredOf, votersOf, confirmedOf, roleOf, image, keptIn, stateIn, readKept}
 use Rattle.state.specs.Head.{headIn, bytesOfHead, headOf}
-use Rattle.state.specs.Table.{Row, entryRow, pairRow, rowsOf}
+use Rattle.state.specs.Table.{pairRow, rowsOf}
 use Rattle.state.specs.Check.{isSome}
-use Rattle.state.proofs.LegalLaws.{legalKept-is, rowsOf-length}
-use Rattle.rules.proofs.LegalLaws.{IsKept}
-use Rattle.state.proofs.TableLaws.{rowsIn-length}
+use Rattle.state.proofs.LegalLaws.{legalKept-is, rowsOf-length, IsKept, legalState-kept, follower-legal}
+use Rattle.rows.proofs.RowLaws.{rowsIn-length}
 use Rattle.state.proofs.ImageLaws.{readKept-sound}
 use Rattle.state.proofs.ImageWrites.{kept-cleared}
 use Rattle.rules.specs.Outcome.{Next, goes}
 use Rattle.rules.specs.Events.{isLeader, started, asks, start, withTerm, restart}
 use Rattle.rules.specs.Receive.{raised}
 use Rattle.rules.specs.Happens.{to-start, happens, legalAt}
-use Rattle.rules.proofs.LegalLaws.{legalState-kept, follower-legal}
 use Rattle.rules.proofs.EventsLaws.{withTerm-kept}
 use Rattle.rules.proofs.Theorems.{next-is-legal}
 use Rattle.step.specs.Promise.{Ready}

@@ -14,9 +14,10 @@ use Rattle.kinds.specs.Sizes.{Who, limit}
 use Rattle.state.specs.declared.Head.{Head}
 use Rattle.state.specs.State.{State}
 use Rattle.state.specs.Legal.{legalState}
-use Rattle.state.specs.Image.{head-size, row-size, state-size, roleOf, gatheredOf, confirmedOf, bytesOf, image, stateIn}
+use Rattle.rows.specs.Rows.{row-size, bytesOf, Row, rowBytes}
+use Rattle.state.specs.Image.{head-size, state-size, roleOf, gatheredOf, confirmedOf, image, stateIn}
 use Rattle.state.specs.Head.{headIn, bytesOfHead, headOf}
-use Rattle.state.specs.Table.{Row, rowBytes, rowsOf}
+use Rattle.state.specs.Table.{rowsOf}
 use Rattle.state.proofs.LegalLaws.{Held, legal-held}
 use Rattle.state.proofs.ImageLaws.{image-head, legal-length, readState-image, readState-sound, stateIn-image}
 use Rattle.state.proofs.ImageWrites.{image-headed, image-put, image-clear}

@@ -17,19 +17,20 @@ use Rattle.command.proofs.AnswersLaws.{isCommand-length}
 use Rattle.state.specs.declared.Head.{Head}
 use Rattle.state.specs.State.{Kept, Lost, follower, candidate, leader, State}
 use Rattle.state.specs.Legal.{legalState}
-use Rattle.state.specs.Image.{head-size, row-size, roleOf, gatheredOf, confirmedOf, bytesOf, image, stateIn}
+use Rattle.rows.specs.Rows.{row-size, bytesOf, Row, rowBytes, entryRow}
+use Rattle.state.specs.Image.{head-size, roleOf, gatheredOf, confirmedOf, image, stateIn}
 use Rattle.state.specs.Head.{headIn, bytesOfHead, headOf}
-use Rattle.state.specs.Table.{Row, rowBytes, entryRow, rowsOf}
+use Rattle.state.specs.Table.{rowsOf}
 use Rattle.rules.specs.Outcome.{Next, done, goes, refuses, wrong-role, bad-command, log-full}
 use Rattle.rules.specs.Events.{leads, withEntry, proposeLeading, propose}
 use Rattle.rules.specs.Happens.{to-propose, happens, legalAt}
 use Rattle.rules.proofs.Theorems.{next-is-legal}
-use Rattle.step.specs.declared.Words.{Words}
+use Rattle.rows.specs.declared.Words.{Words}
 use Rattle.step.specs.Promise.{Ready, Quiet}
 use Rattle.step.specs.Heads.{grown}
-use Rattle.step.specs.Words.{commandIn, wordsAt, rowWords}
+use Rattle.rows.specs.Words.{commandIn, wordsAt, rowWords}
 use Rattle.step.proofs.PromiseLaws.{ready-legal, ready-head, ready-role, ready-term, ready-length, ready-put, refused-quiet, done-quiet}
-use Rattle.step.proofs.WordsLaws.{commandIn-at, row-words}
+use Rattle.rows.proofs.WordsLaws.{commandIn-at, row-words}
 use Rattle.step.proofs.HeadsLaws.{grown-head}
 
 -- ---- the bytes proposed

@@ -9,11 +9,13 @@ use Rattle.kinds.specs.Sizes.{limit}
 use Rattle.command.specs.Words.{word, wordAt}
 use Rattle.command.specs.Command.{commandBytes}
 use Rattle.command.proofs.WordsLaws.{wordAt-word}
-use Rattle.state.specs.Image.{head-size, row-size, bytesOf, row}
-use Rattle.state.specs.Table.{Row, rowBytes, table}
-use Rattle.state.proofs.ListLaws.{sets-skip}
-use Rattle.state.proofs.PartLaws.{wordAt-behind, wordAt-drop}
-use Rattle.state.proofs.TableLaws.{rowBytes-length, table-length, table-put, table-row}
+use Rattle.rows.specs.Rows.{row-size, bytesOf, row, Row, rowBytes}
+use Rattle.state.specs.Image.{head-size}
+use Rattle.state.specs.Table.{table}
+use Rattle.rows.proofs.ListLaws.{sets-skip}
+use Rattle.rows.proofs.PartLaws.{wordAt-behind, wordAt-drop}
+use Rattle.rows.proofs.RowLaws.{rowBytes-length}
+use Rattle.state.proofs.TableLaws.{table-length, table-put, table-row}
 
 module _ (head : List ℕ) (long : length head ≡ head-size) where
   -- A row written at row i.

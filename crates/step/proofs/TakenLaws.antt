@@ -11,7 +11,8 @@ use Rattle.command.specs.Entry.{Entry}
 use Rattle.state.specs.State.{Kept, follower, State}
 use Rattle.state.specs.Image.{roleOf, votersOf, gatheredOf, confirmedOf}
 use Rattle.state.specs.Head.{headOf}
-use Rattle.state.specs.Table.{entryRow, rowsOf}
+use Rattle.rows.specs.Rows.{entryRow}
+use Rattle.state.specs.Table.{rowsOf}
 use Rattle.rules.specs.Receive.{replaced, taken}
 use Rattle.step.specs.Heads.{taking}
 

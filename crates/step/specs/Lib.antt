@@ -1,6 +1,5 @@
 pub mod Promise
 pub mod Gate
 pub mod Heads
-pub mod Words
 pub mod Append
 pub mod Gather

@@ -11,7 +11,8 @@ ghost use lib.Seq.{sets};
 ghost use Rattle.kinds.specs.Of.{place, term};
 ghost use Rattle.kinds.specs.Sizes.{limit, text-room};
 ghost use Rattle.command.specs.Proposal.{readProposal};
-ghost use Rattle.state.specs.Image.{head-size, row-size, state-size, image, keptIn, stateIn, readKept};
+ghost use Rattle.rows.specs.Rows.{row-size};
+ghost use Rattle.state.specs.Image.{head-size, state-size, image, keptIn, stateIn, readKept};
 ghost use Rattle.state.specs.Check.{isSome};
 ghost use Rattle.rules.specs.Events.{termAt, started, propose, restart};
 ghost use Rattle.rules.specs.Receive.{raised, fits, heardEnd};
@@ -20,16 +21,11 @@ ghost use Rattle.step.specs.Promise.{whoIn, Ready, Quiet, Ruled, Adds, S
 ghost use Rattle.step.specs.Gate.{isKnown, isFit, gate};
 ghost use Rattle.step.specs.Heads.{following, standing, grown, confirming, leading, taking};
 ghost use Rattle.step.specs.Append.{follows, Tested};
-ghost use Rattle.step.specs.Words.{wordsAt, wordsBytes, rowWords, renumbered};
 use kinds::Hub;
 use kinds::Place;
 use kinds::Term;
 use state::Head;
 
-// The bytes of the head of a state, and of a row of its table.
-const HEAD: usize = 56;
-
-const ROW: usize = 20;
 // The least bytes of an output.
 const OUTPUT: usize = 16_384;
 
@@ -64,55 +60,7 @@ pub struct Group {
     pub own: Hub,
 }
 
-// A command by its four words, as they stand in its bytes; motor and kind share the first.
-pub struct Words {
-    pub what: u32,
-    pub duration: u32,
-    pub a: u32,
-    pub b: u32,
-}
-
-// ---- rows and bytes
-
-// Where row i of the table stands.
-pub fn row_at(i: u32) -> usize
-    ensures { λ r. ⌜ r ≡ head-size + i * row-size ⌝ }
-{
-    HEAD + (i as usize) * ROW
-}
-
-// The words of the command in the 16 bytes from a place on.
-pub fn words_at(s: &[u8], at: usize) -> Words
-    requires { ⌜ at + 16 ≤ length (now s) ⌝ }
-    ensures { λ r. ⌜ r ≡ wordsAt at (now (s .entry)) ⌝ }
-{
-    Words {
-        what: command::get32(s, at),
-        duration: command::get32(s, at + 4),
-        a: command::get32(s, at + 8),
-        b: command::get32(s, at + 12),
-    }
-}
-
-// Writes the 16 bytes of a command.
-pub fn put_words(s: &mut [u8], at: usize, c: Words)
-    requires { ⌜ at + 16 ≤ length (now s) ⌝ }
-    ensures { λ _. ⌜ now (s .exit) ≡ sets (now (s .entry)) at (wordsBytes c) ⌝ }
-{
-    command::put32(s, at, c.what);
-    command::put32(s, at + 4, c.duration);
-    command::put32(s, at + 8, c.a);
-    command::put32(s, at + 12, c.b);
-}
-
-// Writes a row of the table: its number, and its command.
-pub fn put_row(s: &mut [u8], at: usize, number: u32, c: Words)
-    requires { ⌜ at + 20 ≤ length (now s) ⌝ }
-    ensures { λ _. ⌜ now (s .exit) ≡ sets (now (s .entry)) at (rowWords number c) ⌝ }
-{
-    command::put32(s, at, number);
-    put_words(s, at + 4, c);
-}
+// ---- bytes
 
 // Clears the bytes from one place to another.
 pub fn clear(s: &mut [u8], from: usize, to: usize)
@@ -123,20 +71,6 @@ pub fn clear(s: &mut [u8], from: usize, to: usize)
     while i < to {
         s[i] = 0;
         i += 1;
-    }
-}
-
-// Gives n rows from a place on another number; their commands stay.
-pub fn renumber(s: &mut [u8], from: usize, n: u32, number: u32)
-    requires { ⌜ from + n * 20 ≤ length (now s) ⌝ }
-    ensures { λ _. ⌜ now (s .exit) ≡ renumbered (now (s .entry)) from n number ⌝ }
-{
-    let mut at = from;
-    let mut left = n;
-    while 0 < left {
-        command::put32(s, at, number);
-        at += ROW;
-        left -= 1;
     }
 }
 
@@ -229,9 +163,9 @@ fn is_fit(g: Group, event: u32, state: &[u8]) -> bool
     ensures { λ r. ⌜ r ≡ isFit (whoIn g) event (now (state .entry)) ⌝ }
 {
     if event == RESTART {
-        return state::is_kept_legal(state);
+        return legal::is_kept_legal(state);
     }
-    state::is_legal(g.size, g.own.number(), state)
+    legal::is_legal(g.size, g.own.number(), state)
 }
 
 // The refusals before every event, in the order of rule R32: 1, 2, 3; 0 if there is none.
@@ -258,7 +192,11 @@ pub fn clear_gathered(h: Head, state: &mut [u8])
     ensures { λ _. ⌜ now (state .exit) ≡ sets (now (state .entry)) (head-size + h .length .0 * row-size) (replicate (h .gathered .0 * row-size) 0) ⌝ }
 {
     let n = h.length.number();
-    clear(state, row_at(n), row_at(n + h.gathered.number()));
+    clear(
+        state,
+        head::row_at(n),
+        head::row_at(n + h.gathered.number()),
+    );
 }
 
 // Becomes a follower of its own term or of a higher one, lost parts cleared.
@@ -267,7 +205,7 @@ pub fn raise_in(g: Group, h: Head, t: Term, state: &mut [u8])
     ensures { λ _. ⌜ now (state .exit) ≡ image (raised (stateIn (now (state .entry))) (t .0)) ⌝ }
 {
     clear_gathered(h, state);
-    state::write_head(state, follow(h, t));
+    head::write_head(state, follow(h, t));
 }
 
 // ---- start
@@ -278,7 +216,7 @@ pub fn start_in(g: Group, h: Head, state: &mut [u8])
     ensures { λ _. ⌜ now (state .exit) ≡ image (started (whoIn g) (stateIn (now (state .entry)))) ⌝ }
 {
     clear_gathered(h, state);
-    state::write_head(state, stand(h, g.own));
+    head::write_head(state, stand(h, g.own));
 }
 
 // ---- restart
@@ -288,10 +226,10 @@ pub fn restart_in(state: &mut [u8])
     requires { ⌜ isSome (readKept (now state)) ≡ true ⌝ }
     ensures { λ _. ⌜ now (state .exit) ≡ image (restart (keptIn (now (state .entry))) .state) ⌝ }
 {
-    let h = state::read_head(state);
+    let h = head::read_head(state);
     let end = state.len();
-    clear(state, row_at(h.length.number()), end);
-    state::write_head(state, follow(h, h.term));
+    clear(state, head::row_at(h.length.number()), end);
+    head::write_head(state, follow(h, h.term));
 }
 
 // ---- propose
@@ -301,13 +239,13 @@ fn add_entry(g: Group, h: Head, state: &mut [u8], command: &[u8])
     requires { ⌜ Adds (whoIn g) h (now state) (now command) ⌝ }
     ensures { λ _. ⌜ now (state .exit) ≡ image (propose (whoIn g) (stateIn (now (state .entry))) (readProposal (now (command .entry))) .state) ⌝ }
 {
-    put_row(
+    rows::put_row(
         state,
-        row_at(h.length.number()),
+        head::row_at(h.length.number()),
         h.term.number(),
-        words_at(command, 0),
+        rows::words_at(command, 0),
     );
-    state::write_head(state, grow(h, g.own));
+    head::write_head(state, grow(h, g.own));
 }
 
 // Propose (leader): the command is added with the present term; own confirmed length follows.
@@ -315,7 +253,7 @@ pub fn propose_at(g: Group, state: &mut [u8], command: &[u8]) -> u32
     requires { ⌜ Ready (whoIn g) (now state) ⌝ }
     ensures { λ r. ⌜ Quiet (propose (whoIn g) (stateIn (now (state .entry))) (readProposal (now (command .entry)))) (now (state .entry)) r (now (state .exit)) ⌝ }
 {
-    let h = state::read_head(state);
+    let h = head::read_head(state);
     if h.role != LEADER {
         return WRONG_ROLE;
     }
@@ -402,14 +340,14 @@ pub fn hear_end(g: Group, state: &mut [u8], from: Hub, end: Place) -> bool
     requires { ⌜ HearsEnd (whoIn g) (now state) (from .0) (end .0) ⌝ }
     ensures { λ r. ⌜ Ruled (heardEnd (whoIn g) (stateIn (now (state .entry))) (from .0) (end .0)) (now (state .entry)) r (now (state .exit)) ⌝ }
 {
-    let h = state::read_head(state);
+    let h = head::read_head(state);
     if h.role != LEADER {
         return false;
     }
     if !is_more(h, from, end) {
         return false;
     }
-    state::write_head(state, confirm(g, h, from, end));
+    head::write_head(state, confirm(g, h, from, end));
     true
 }
 
@@ -420,7 +358,7 @@ pub fn term_of(g: Group, h: Head, p: Place, state: &[u8]) -> Term
     requires { ⌜ Tested (whoIn g) h (now state) × (1 ≤ p .0) × (p .0 ≤ h .length .0) ⌝ }
     ensures { λ r. ⌜ r ≡ term (termAt (stateIn (now (state .entry)) .kept .log) (p .0)) ⌝ }
 {
-    Term::of(command::get32(state, row_at(p.number() - 1)))
+    Term::of(command::get32(state, head::row_at(p.number() - 1)))
 }
 
 // Prev is 0, or prev ≤ length and the entry there has term prevterm.

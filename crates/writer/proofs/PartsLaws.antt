@@ -1,10 +1,10 @@
 -- Laws of the parts of a message's text: the lines of each type, that the parts and the entry lines are the whole text, and the room for each
 -- part. Assumes nothing.
-use Prim.Native.Nat.{ℕ, zero, suc, _+_, _*_, _≤_}
+use Prim.Native.Nat.{ℕ, suc, _+_, _*_, _≤_}
 use native.Mathlib.Omega.{arith}
 use mathlib.Core.Path.{_≡_, refl, _∙_, ap}
 use mathlib.Core.List.{List, [], _∷_, _++_, append-assoc, append-nil}
-use lib.ListN.{length, drop}
+use lib.ListN.{length}
 use Rattle.kinds.specs.declared.Place.{Place}
 use Rattle.kinds.specs.declared.Term.{Term}
 use Rattle.text.specs.Ascii.{ascii}
@@ -15,7 +15,9 @@ use Rattle.command.specs.Entry.{Entry}
 use Rattle.message.specs.Fields.{MessageType, term=, from=, to=, ownFields, fields, countIn, messageOf}
 use Rattle.message.specs.Text.{type=, name, linesText, entriesText, text}
 use Rattle.message.specs.Answer.{typeIn, ownIn, openingOf, spanOf}
-use Rattle.message.specs.Rows.{row-size, rowEntries}
+use Rattle.rows.specs.Rows.{entryOf}
+use Rattle.rows.proofs.RowLaws.{rowsIn-length}
+use Rattle.message.specs.Rows.{rowEntries}
 use Rattle.message.specs.Write.{countOf, messageWith, Puts}
 use Rattle.message.specs.declared.Body.{Body}
 use Rattle.message.specs.declared.Body.the-variants.{VoteRequest, VoteYes, VoteNo, Append, AppendYes, AppendNo}
@@ -110,12 +112,6 @@ length-line n p = rw p (simp append-nil)
 
 -- ---- the whole text
 
--- There are as many entries as rows are asked for.
-pub rows-many : (n : ℕ) (rows : List ℕ) → length (rowEntries n rows) ≡ n
-unfolding rowEntries
-rows-many zero rows = refl
-rows-many (suc n) rows = ap suc (rows-many n (drop row-size rows))
-
 -- A number for each of a type's own fields,
 own-many : (b : Body) → length (ownIn b) ≡ length (ownFields (typeIn b))
 unfolding ownFields
@@ -158,7 +154,7 @@ fromHead f rows = headText f ++ fromOwn f rows
 parts-text : (f : Fields) (rows : List ℕ) → text (messageWith f rows) ≡ typeText (f .body) ++ fromHead f rows
 unfolding messageWith countOf typeText headText ownText
 parts-text f rows =
-    text-of (openingOf f .type) (openingOf f .numbers) (rowEntries (countOf f) rows) (numbers-many f) (rows-many (countOf f) rows)
+    text-of (openingOf f .type) (openingOf f .numbers) (rowEntries (countOf f) rows) (numbers-many f) (rowsIn-length entryOf (countOf f) rows)
     ∙ rw (lines-split (typeIn (f .body)) (f .term .0) (f .from .0) (f .to .0) (ownIn (f .body))) (simp append-assoc)
 
 -- The count of the span is the count of the fields.

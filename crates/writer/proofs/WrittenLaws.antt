@@ -17,7 +17,9 @@ use Rattle.text.specs.Wrote.{Wrote}
 use Rattle.command.proofs.Tests.{by-test, both}
 use Rattle.message.specs.Legal.{legalMessage}
 use Rattle.message.specs.Answer.{fieldsOf, spanOf}
-use Rattle.message.specs.Rows.{row-size, rowEntries}
+use Rattle.rows.specs.Rows.{row-size, entryOf}
+use Rattle.rows.proofs.RowLaws.{rowsIn-length}
+use Rattle.message.specs.Rows.{rowEntries}
 use Rattle.message.specs.Text.{text, read}
 use Rattle.message.specs.Write.{countOf, messageWith, Puts}
 use Rattle.message.specs.declared.Fields.{Fields}
@@ -26,7 +28,7 @@ use Rattle.message.proofs.ReadLaws.{text-most, read-text}
 use Rattle.writer.specs.declared.Write.{Write}
 use Rattle.writer.specs.declared.Write.the-variants.{Message, Short, Illegal}
 use Rattle.writer.specs.Written.{isMessage, Written, writtenText, written, outcomeOf, bytesOf, Writes}
-use Rattle.writer.proofs.PartsLaws.{rows-many}
+use Rattle.writer.proofs.PartsLaws.{}
 
 -- ---- each way through the code
 
@@ -130,7 +132,7 @@ module _ (f : Fields) (rows out : List ℕ) where
   written-back told =
       let w = is-written told in
       rw (w .1, take-at s (drop (length s) out) (length s) refl)
-      (record { read-is = read-text (messageWith f rows) (w .0); fields-are = fields-back f (rowEntries (countOf f) rows) (rows-many (countOf f) rows) })
+      (record { read-is = read-text (messageWith f rows) (w .0); fields-are = fields-back f (rowEntries (countOf f) rows) (rowsIn-length entryOf (countOf f) rows) })
 
   -- They are no more than an output has room for.
   pub written-fits : written f rows out .outcome ≡ done → written f rows out .bytes ≤ text-room

@@ -9,7 +9,8 @@ ghost use Rattle.text.specs.Wrote.{Wrote};
 ghost use Rattle.command.specs.Entry.{legalEntries};
 ghost use Rattle.message.specs.Message.{vote-request, vote-yes, append};
 ghost use Rattle.message.specs.Legal.{legalBody, legalMessage};
-ghost use Rattle.message.specs.Rows.{row-size, rowEntries};
+ghost use Rattle.rows.specs.Rows.{row-size};
+ghost use Rattle.message.specs.Rows.{rowEntries};
 ghost use Rattle.message.specs.Text.{text};
 ghost use Rattle.message.specs.Write.{countOf, messageWith, Puts};
 ghost use Rattle.message.specs.declared.Body.the-variants.{VoteRequest, VoteYes, Append};
@@ -208,19 +209,7 @@ fn are_legal(rows: &[u8], count: u32, low: u32, high: u32) -> bool
     requires { ⌜ count * row-size ≤ length (now rows) ⌝ }
     ensures { λ r. ⌜ r ≡ legalEntries low high (rowEntries count (now (rows .entry))) ⌝ }
 {
-    let mut least = low;
-    let mut at: usize = 0;
-    let mut left = count;
-    while 0 < left {
-        let t = command::get32(rows, at);
-        if !((least <= t) & ((t <= high) & command::is_legal_at(rows, at + 4))) {
-            return false;
-        }
-        least = t;
-        at += ROW;
-        left -= 1;
-    }
-    true
+    rows::are_legal(rows, 0, count, true, low, high)
 }
 
 // Whether a vote-request's own fields are legal.

@@ -2,17 +2,17 @@
 use mathlib.Core.Path.{sym}
 use native.Mathlib.Omega.{arith}
 use borrow.Author.Needs.{needs}
+use Rattle.command.specs.Answers.{ofNumbers}
 use Rattle.command.proofs.AnswersLaws.{within, legal-within, legal-other}
 use Rattle.command.proofs.is_within.Statement.{statement}
 use Rattle.command.proofs.is_within.Tie as tie
-use Rattle.command.proofs.is_within.Reads as reads
-use Rattle.command.proofs.is_within.Lts as lts
-use Rattle.command.specs.Answers.{ofNumbers}
 
+-- A kind that there is not.
 other : tie.Need-returns
 unfolding ofNumbers
 other c = sym (legal-other _ _ _ _ _ (c .if1 .taken))
 
+-- The limits of the kind decide.
 by-limits : tie.Need-returns-2
 unfolding ofNumbers within
 by-limits c =

@@ -4,6 +4,7 @@ use Rattle.command.specs.Answers.{kindLimits}
 use Rattle.command.proofs.limits.Statement.{statement}
 use Rattle.command.proofs.limits.Tie as tie
 
+-- Number by number.
 listed : tie.Need-returns
 unfolding kindLimits
 listed c = refl

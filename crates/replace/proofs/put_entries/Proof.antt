@@ -7,7 +7,8 @@ use lib.ListN.{length, drop}
 use lib.Seq.{sets}
 use borrow.Author.Needs.{needs}
 use Rattle.message.specs.Walk.{entriesFrom, Lie}
-use Rattle.state.specs.Image.{row-size, logRow, bytesOf}
+use Rattle.rows.specs.Rows.{row-size, bytesOf}
+use Rattle.state.specs.Image.{logRow}
 use Rattle.message.proofs.WalkLaws.{lie-on, lie-next}
 use Rattle.replace.proofs.EntriesLaws.{put-none, put-next}
 use Rattle.replace.proofs.put_entries.Statement.{statement}

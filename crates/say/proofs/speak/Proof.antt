@@ -3,7 +3,8 @@ use Prim.Native.Nat.{ℕ, _+_, _*_}
 use mathlib.Core.Path.{refl, _∙_, ap}
 use native.Mathlib.Omega.{arith}
 use borrow.Author.Needs.{needs}
-use Rattle.state.specs.Image.{head-size, row-size}
+use Rattle.rows.specs.Rows.{row-size}
+use Rattle.state.specs.Image.{head-size}
 use Rattle.say.proofs.SpokenLaws.{spoken-inside, spoken-puts, spoken-said}
 use Rattle.say.proofs.speak.Statement.{statement}
 use Rattle.say.proofs.speak.Tie as tie

@@ -3,7 +3,8 @@ use Prim.Native.Nat.{_+_, _-_, _*_}
 use mathlib.Core.Path.{_≡_, _∙_}
 use native.Mathlib.Omega.{arith}
 use borrow.Author.Needs.{needs}
-use Rattle.state.specs.Image.{head-size, row-size, state-size}
+use Rattle.rows.specs.Rows.{row-size}
+use Rattle.state.specs.Image.{head-size, state-size}
 use Rattle.state.proofs.LegalLaws.{limit-fits}
 use Rattle.step.proofs.clear_gathered.Statement.{statement}
 use Rattle.step.proofs.clear_gathered.Tie as tie

@@ -5,7 +5,8 @@ use native.Mathlib.Omega.{arith}
 use borrow.Author.Needs.{needs}
 use Rattle.kinds.specs.Of.{term}
 use Rattle.command.specs.Words.{wordAt}
-use Rattle.state.specs.Image.{head-size, row-size}
+use Rattle.rows.specs.Rows.{row-size}
+use Rattle.state.specs.Image.{head-size}
 use Rattle.step.proofs.AppendLaws.{tested-inside, tested-at}
 use Rattle.step.proofs.term_of.Statement.{statement}
 use Rattle.step.proofs.term_of.Tie as tie

@@ -2,7 +2,8 @@
 use borrow.Author.Needs.{needs}
 use Rattle.kinds.specs.Sizes.{limit}
 use Rattle.message.specs.Legal.{legalBody}
-use Rattle.writer.proofs.PartsLaws.{rows-many}
+use Rattle.rows.specs.Rows.{entryOf}
+use Rattle.rows.proofs.RowLaws.{rowsIn-length}
 use Rattle.writer.proofs.is_yes.Statement.{statement}
 use Rattle.writer.proofs.is_yes.Tie as tie
 
@@ -10,7 +11,7 @@ as-defined : tie.Need-returns
 unfolding legalBody limit
 as-defined c =
     let start = c .before .before .before .before .before .before .before .before in
-    cc (rows-many (start .args .count) (start .args .rows .now))
+    cc (rowsIn-length entryOf (start .args .count) (start .args .rows .now))
 
 pub is-yes-spec : {M : Type 1} → statement M
 is-yes-spec =

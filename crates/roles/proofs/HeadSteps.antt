@@ -1,0 +1,35 @@
+-- The check of a head, as the code's tests give it. Over plain variables, so that a function's proof only names a law. Assumes nothing.
+use Prim.Native.Nat.{ℕ, zero, suc}
+use mathlib.Core.Path.{_≡_, refl}
+use mathlib.Core.Bool.{Bool, true, false, _&&_}
+use mathlib.Core.List.{List}
+use Rattle.kinds.specs.Hubs.{all}
+use Rattle.kinds.specs.Sizes.{Who, hubs-most}
+use Rattle.command.specs.Words.{part}
+use Rattle.rows.proofs.BoolLaws.{and-fails}
+use Rattle.state.specs.declared.Head.{Head}
+use Rattle.state.specs.Head.{headIn, isFlag, keptHead, roleHead}
+use Rattle.state.specs.Check.{checkedHead}
+
+-- A voter's byte that is neither 0 nor 1.
+pub head-flags : (w : Who) (l : List ℕ) → all isFlag (part 21 hubs-most l) ≡ false → checkedHead w l ≡ false
+unfolding checkedHead
+head-flags w l h = and-fails _ h
+
+-- Otherwise the tests of the numbers decide.
+pub head-tests : (w : Who) (l : List ℕ) {h : Head} {kept role : Bool} →
+    all isFlag (part 21 hubs-most l) ≡ true →
+    h ≡ headIn l →
+    kept ≡ keptHead h →
+    role ≡ roleHead w (h .role) h →
+    (kept && role) ≡ checkedHead w l
+unfolding checkedHead
+head-tests w l f e k r = rw (f, k, r, e)
+
+-- There is no fourth role.
+pub role-other : (w : Who) (h : Head) (r : ℕ) → (r ≡ 0 → ⊥) → (r ≡ 1 → ⊥) → (r ≡ 2 → ⊥) → roleHead w r h ≡ false
+unfolding roleHead
+role-other w h zero a b c = absurd (a refl)
+role-other w h (suc zero) a b c = absurd (b refl)
+role-other w h (suc (suc zero)) a b c = absurd (c refl)
+role-other w h (suc (suc (suc r))) a b c = refl
