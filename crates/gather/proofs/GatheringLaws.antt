@@ -14,12 +14,12 @@ use Rattle.kinds.specs.Sizes.{term-most}
 use Rattle.command.specs.Words.{wordAt}
 use Rattle.command.specs.Entry.{Entry, legalEntries}
 use Rattle.command.proofs.EntryLaws.{legalEntries-first, legalEntries-wider}
-use Rattle.message.specs.declared.EntryAt.{EntryAt}
-use Rattle.message.specs.declared.EntryAt.the-variants.{Is, End}
+use Rattle.entries.specs.declared.EntryAt.{EntryAt}
+use Rattle.entries.specs.declared.EntryAt.the-variants.{Is, End}
 use Rattle.message.specs.Text.{entriesText}
 use Rattle.message.specs.Walk.{entryLine, entriesFrom, Lie}
-use Rattle.message.specs.Found.{FoundEntry}
-use Rattle.message.proofs.WalkLaws.{stood-on, stood-at}
+use Rattle.entries.specs.Found.{FoundEntry}
+use Rattle.entries.proofs.WalkLaws.{stood-on, stood-at}
 use Rattle.rows.specs.Rows.{row-size, row}
 use Rattle.rows.specs.declared.Words.{Words}
 use Rattle.rows.specs.Words.{rowWords}

@@ -11,10 +11,10 @@ ghost use Rattle.step.specs.Promise.{whoIn, Ruled};
 ghost use Rattle.rows.specs.Words.{rowWords};
 ghost use Rattle.step.specs.Gather.{gatheredInto};
 ghost use Rattle.gather.specs.Yes.{Hears, Counts, rowGathered, withVoter, countedInto};
+use entries::EntryAt;
 use kinds::Hub;
 use kinds::Place;
 use kinds::Term;
-use message::EntryAt;
 use rows::Words;
 use state::Head;
 use step::Group;
@@ -67,7 +67,7 @@ fn gather_in(
             a,
             b,
             next,
-        } = message::next_entry(text, &table, i, 1, TERM_MOST)
+        } = entries::next_entry(text, &table, i, 1, TERM_MOST)
         else {
             // Never: a line stands there for each entry.
             return;

@@ -13,12 +13,13 @@ use Rattle.kinds.specs.Sizes.{text-room}
 use Rattle.message.proofs.ReadLaws.{read-sound}
 use Rattle.message.specs.Message.{Message, Body as Said, vote-request, vote-yes, vote-no, append, append-yes, append-no}
 use Rattle.message.specs.Text.{read, partFrom}
-use Rattle.message.specs.Answer.{bodyAs, fieldsOf, readAs}
+use Rattle.message.specs.Answer.{bodyAs, fieldsOf}
+use Rattle.reader.specs.Answer.{readAs}
 use Rattle.message.specs.declared.Fields.{Fields}
 use Rattle.message.specs.declared.Body.{Body}
 use Rattle.message.specs.declared.Body.the-variants.{VoteRequest, VoteYes, VoteNo, Append, AppendYes, AppendNo}
-use Rattle.message.specs.declared.Read.{Read}
-use Rattle.message.specs.declared.Read.the-variants.{Message as Read·Message, Refused}
+use Rattle.reader.specs.declared.Read.{Read}
+use Rattle.reader.specs.declared.Read.the-variants.{Message as Read·Message, Refused}
 use Rattle.kritnamon.specs.Message.{typeNumber, ownNumbers, numbersOf, message-numbers, Told, tellsNot, tellsRead, tells, Tells}
 use Rattle.kritnamon.specs.Numbers.{kindIn, ownIn, numbersIn}
 

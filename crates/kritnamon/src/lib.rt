@@ -20,7 +20,7 @@ use kinds::Place;
 use kinds::Term;
 use message::Body;
 use message::Fields;
-use message::Read;
+use reader::Read;
 use step::Group;
 use writer::Write;
 
@@ -143,7 +143,7 @@ pub extern "C" fn kritnamon_read_message(text: &[u8], numbers: &mut [u32]) -> u6
     if numbers.len() < MESSAGE_NUMBERS {
         return SHORT_OUTPUT;
     }
-    let Read::Message { fields, entries } = message::read_message(text) else {
+    let Read::Message { fields, entries } = reader::read_message(text) else {
         return BAD_MESSAGE;
     };
     put_fields(fields, numbers);

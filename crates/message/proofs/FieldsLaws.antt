@@ -15,8 +15,20 @@ use Rattle.message.specs.Fields.{
   type=append,
   type=append-yes,
   type=append-no,
+  Field,
+  term=,
+  from=,
+  to=,
+  last=,
+  ballot=,
+  prev=,
+  prevterm=,
+  chosen=,
   ownFields,
   fields,
+  unset,
+  numberOf,
+  withNumber,
   typeOf,
   ownNumbers,
   numbers,
@@ -56,21 +68,7 @@ pub countIn-numbers : (m : Message) → countIn (typeOf (m .body)) (numbers m) �
 unfolding numbers
 countIn-numbers m = countIn-own (m .term) (m .from) (m .to) (m .body)
 
-own-length : (b : Body) → length (ownNumbers b) ≡ length (ownFields (typeOf b))
-unfolding ownNumbers ownFields typeOf
-own-length (vote-request last ballot) = refl
-own-length (vote-yes last ballot entries) = refl
-own-length vote-no = refl
-own-length (append prev prevterm chosen entries) = refl
-own-length (append-yes end) = refl
-own-length (append-no length) = refl
-
--- A number for each field.
-pub numbers-length : (m : Message) → length (numbers m) ≡ length (fields (typeOf (m .body)))
-unfolding numbers fields
-numbers-length m = ap (λ (n : ℕ). suc (suc (suc n))) (own-length (m .body))
-
--- ---- from a type, numbers and entries, and back
+-- ---- numbers in their slots
 
 -- The elements of a list, spelled out.
 abbrev pub tab : ℕ → (ℕ → ℕ) → List ℕ
@@ -84,6 +82,31 @@ tab-getD (n ∷ ns) = ap (λ (l : List ℕ). n ∷ l) (tab-getD ns)
 -- So many numbers are those at the places from 0 on.
 pub spelled : (k : ℕ) (ns : List ℕ) → length ns ≡ k → tab k (λ i. getD ns i 0) ≡ ns
 spelled k ns h = ap (λ (n : ℕ). tab n (λ i. getD ns i 0)) (sym h) ∙ tab-getD ns
+
+-- The numbers of these fields, put into their slots of others.
+abbrev pub only : List Field → List ℕ → List ℕ → List ℕ
+only [] ns others = others
+only (f ∷ fs) ns others = only fs ns (withNumber f (numberOf f ns) others)
+
+-- The slots of fields that the type does not have are 0.
+abbrev pub Slotted : MessageType → List ℕ → Type 0
+Slotted t ns = only (fields t) ns unset ≡ ns
+
+own-slotted : (term from to : ℕ) (b : Body) → Slotted (typeOf b) (term ∷ from ∷ to ∷ ownNumbers b)
+unfolding fields ownFields typeOf ownNumbers
+own-slotted term from to (vote-request last ballot) = refl
+own-slotted term from to (vote-yes last ballot entries) = refl
+own-slotted term from to vote-no = refl
+own-slotted term from to (append prev prevterm chosen entries) = refl
+own-slotted term from to (append-yes end) = refl
+own-slotted term from to (append-no length) = refl
+
+-- Those of a message are.
+pub numbers-slotted : (m : Message) → Slotted (typeOf (m .body)) (numbers m)
+unfolding numbers
+numbers-slotted m = own-slotted (m .term) (m .from) (m .to) (m .body)
+
+-- ---- from a type, numbers and entries, and back
 
 -- No entries.
 none-left : (es : List Entry) → length es ≡ 0 → _≡_ {A = List Entry} [] es
@@ -110,14 +133,14 @@ entriesOf-messageOf type=append ns es h = refl
 entriesOf-messageOf type=append-yes ns es h = none-left es h
 entriesOf-messageOf type=append-no ns es h = none-left es h
 
--- and the numbers, one for each field.
-pub numbers-messageOf : (t : MessageType) (ns : List ℕ) (es : List Entry) → length ns ≡ length (fields t) → length es ≡ countIn t ns →
-    numbers (messageOf t ns es) ≡ ns
+-- and the numbers, each in its slot.
+pub numbers-messageOf : (t : MessageType) (ns : List ℕ) (es : List Entry) → Slotted t ns → length es ≡ countIn t ns → numbers (messageOf t ns es) ≡ ns
 unfolding numbers messageOf bodyOf ownNumbers countIn fields ownFields
-numbers-messageOf type=vote-request ns es n h = spelled 5 ns n
-numbers-messageOf type=vote-yes ns es n h = ap (λ (k : ℕ). getD ns 0 0 ∷ getD ns 1 0 ∷ getD ns 2 0 ∷ getD ns 3 0 ∷ getD ns 4 0 ∷ k ∷ []) h ∙ spelled 6 ns n
-numbers-messageOf type=vote-no ns es n h = spelled 3 ns n
-numbers-messageOf type=append ns es n h =
-    ap (λ (k : ℕ). getD ns 0 0 ∷ getD ns 1 0 ∷ getD ns 2 0 ∷ getD ns 3 0 ∷ getD ns 4 0 ∷ getD ns 5 0 ∷ k ∷ []) h ∙ spelled 7 ns n
-numbers-messageOf type=append-yes ns es n h = spelled 4 ns n
-numbers-messageOf type=append-no ns es n h = spelled 4 ns n
+numbers-messageOf type=vote-request ns es s h = s
+numbers-messageOf type=vote-yes ns es s h =
+    ap (λ (n : ℕ). numberOf term= ns ∷ numberOf from= ns ∷ numberOf to= ns ∷ numberOf last= ns ∷ numberOf ballot= ns ∷ 0 ∷ n ∷ []) h ∙ s
+numbers-messageOf type=vote-no ns es s h = s
+numbers-messageOf type=append ns es s h =
+    ap (λ (n : ℕ). numberOf term= ns ∷ numberOf from= ns ∷ numberOf to= ns ∷ numberOf prev= ns ∷ numberOf prevterm= ns ∷ numberOf chosen= ns ∷ n ∷ []) h ∙ s
+numbers-messageOf type=append-yes ns es s h = s
+numbers-messageOf type=append-no ns es s h = s

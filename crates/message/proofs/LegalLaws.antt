@@ -1,13 +1,13 @@
 -- What a legal message has: numbers of 32 bits, at most as many entries as there are places, and entries with legal commands.
 -- Assumes nothing.
-use Prim.Native.Nat.{ℕ, _+_, _*_, _≤_, _<_, max}
+use Prim.Native.Nat.{ℕ, zero, suc, _+_, _*_, _≤_, _<_, max}
 use native.Mathlib.Omega.{arith}
 use mathlib.Core.Path.{_≡_, refl}
 use mathlib.Core.Bool.{true, false≢true, Bool·beq, _&&_, _||_, not}
 use lib.Dec.{leb, ltb, eqb}
 use mathlib.Core.List.{List, [], _∷_}
 use borrow.Author.Tests.{leb-true, ltb-true, eqb-true, eqb-false, le-leb, lt-ltb, eq-eqb, ne-eqb}
-use lib.ListN.{length}
+use lib.ListN.{length, getD}
 use Rattle.kinds.specs.Sizes.{between, hubs-most, term-most, limit, text-room}
 use Rattle.kinds.proofs.BetweenLaws.{between-true}
 use Rattle.command.specs.Entry.{Entry, legalEntries}
@@ -150,6 +150,11 @@ abbrev pub Most : List ℕ → Type 0
 Most [] = Unit
 Most (n ∷ ns) = (n ≤ term-most) × Most ns
 
+pub most-at : (ns : List ℕ) (i : ℕ) → Most ns → getD ns i 0 ≤ term-most
+most-at [] i h = omega arith
+most-at (n ∷ ns) zero h = h .0
+most-at (n ∷ ns) (suc i) h = most-at ns i (h .1)
+
 -- What a legal body has. Its entries' terms lie in some range of 32 bits that does not hold 0.
 pub record OwnHeld (b : Body) : Type 0 where
   pub own-most : Most (ownNumbers b)
@@ -165,12 +170,12 @@ unfolding legalBody ownNumbers entriesOf legalEntries
 own-held term (vote-request last ballot) most h =
     let r = request-has term last ballot h in
     let s = sizes in
-    record { own-most = (omega arith, (omega arith, tt)); count-most = omega arith; low = 1; high = 0; low-first = omega arith; high-most = omega arith; entries-legal = refl }
+    record { own-most = (omega arith, (omega arith, (omega arith, (omega arith, tt)))); count-most = omega arith; low = 1; high = 0; low-first = omega arith; high-most = omega arith; entries-legal = refl }
 own-held term (vote-yes last ballot es) most h =
     let r = yes-has term last ballot es h in
     let s = sizes in
     record {
-      own-most = (omega arith, (omega arith, (omega arith, tt)));
+      own-most = (omega arith, (omega arith, (omega arith, (omega arith, tt))));
       count-most = omega arith;
       low = 1;
       high = ballot;
@@ -179,7 +184,7 @@ own-held term (vote-yes last ballot es) most h =
       entries-legal = r .entries-legal;
     }
 own-held term vote-no most h =
-    record { own-most = tt; count-most = omega arith; low = 1; high = 0; low-first = omega arith; high-most = omega arith; entries-legal = refl }
+    record { own-most = (omega arith, (omega arith, (omega arith, (omega arith, tt)))); count-most = omega arith; low = 1; high = 0; low-first = omega arith; high-most = omega arith; entries-legal = refl }
 own-held term (append prev prevterm chosen es) most h =
     let r = append-has term prev prevterm chosen es h in
     let s = sizes in
@@ -195,11 +200,11 @@ own-held term (append prev prevterm chosen es) most h =
 own-held term (append-yes end) most h =
     let p : end ≤ limit = leb-true end limit h in
     let s = sizes in
-    record { own-most = (omega arith, tt); count-most = omega arith; low = 1; high = 0; low-first = omega arith; high-most = omega arith; entries-legal = refl }
+    record { own-most = (omega arith, (omega arith, (omega arith, (omega arith, tt)))); count-most = omega arith; low = 1; high = 0; low-first = omega arith; high-most = omega arith; entries-legal = refl }
 own-held term (append-no n) most h =
     let p : n ≤ limit = leb-true n limit h in
     let s = sizes in
-    record { own-most = (omega arith, tt); count-most = omega arith; low = 1; high = 0; low-first = omega arith; high-most = omega arith; entries-legal = refl }
+    record { own-most = (omega arith, (omega arith, (omega arith, (omega arith, tt)))); count-most = omega arith; low = 1; high = 0; low-first = omega arith; high-most = omega arith; entries-legal = refl }
 
 to-most : (to : ℕ) (b : Body) → legalTo to b ≡ true → to ≤ hubs-most
 unfolding legalTo

@@ -1,14 +1,8 @@
-pub mod TypeLaws
-pub mod LinesLaws
-pub mod CaseLaws
-pub mod EntryLaws
 pub mod FieldsLaws
 pub mod LegalLaws
 pub mod TextLaws
 pub mod ReadLaws
 pub mod RangeLegal
 pub mod RangeLaws
-pub mod OpeningLaws
 pub mod AnswerLaws
-pub mod RowsLaws
-pub mod WalkLaws
+pub mod NoneEmpty

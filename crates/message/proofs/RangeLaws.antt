@@ -3,7 +3,7 @@
 use Prim.Native.Nat.{ℕ, zero, suc}
 use mathlib.Core.Path.{_≡_, refl, sym, _∙_, ap}
 use mathlib.Core.Bool.{Bool, true, false, _&&_, and-assoc}
-use mathlib.Core.List.{List, [], _∷_, _++_, append-assoc, append-nil}
+use mathlib.Core.List.{List, [], _∷_}
 use lib.ListN.{length}
 use Rattle.kinds.specs.Sizes.{between}
 use Rattle.text.specs.Ascii.{ascii}
@@ -12,7 +12,7 @@ use Rattle.text.specs.Decimal.{number}
 use Rattle.text.specs.Hex.{hexBytes}
 use Rattle.text.specs.Line.{LF, line}
 use Rattle.text.specs.Range.{within, numberIn}
-use Rattle.text.proofs.ReaderLaws.{onward-got, onward-lost, onward-never, onward-assoc}
+use Rattle.text.proofs.ReaderLaws.{got-same, lost-never, onward-got, onward-lost, onward-never, onward-same, onward-sound, onward-assoc}
 use Rattle.text.proofs.RangeLaws.{lineIn-is}
 use Rattle.command.specs.Command.{command-size, commandOf, legalCommand}
 use Rattle.command.specs.Entry.{Entry, legalEntries}
@@ -23,10 +23,12 @@ use Rattle.message.specs.Fields.{
   MessageType,
   Field,
   fields,
+  unset,
+  withNumber,
   countIn,
   messageOf,
 }
-use Rattle.message.specs.Text.{type=, entry=, key, typeAmong, types, lines, entry, entries, message, ifLegal}
+use Rattle.message.specs.Text.{type=, entry=, key, typeAmong, types, entry, entries, message, ifLegal}
 use Rattle.message.specs.Range.{
   range,
   lowIn,
@@ -38,7 +40,8 @@ use Rattle.message.specs.Range.{
   messageIn,
 }
 use Rattle.message.proofs.RangeLegal.{ranged, ranged-legal}
-use Rattle.message.proofs.TextLaws.{entryAfter, messageAfter, messageFrom, lines-sound, entries-sound}
+use Rattle.message.proofs.TextLaws.{entryAfter, messageAfter, messageFrom, values, placed, lines-values, values-sound, placed-slotted, entries-sound}
+use Rattle.message.proofs.FieldsLaws.{Slotted}
 
 -- A value, if a test holds. It stands for no text.
 unfoldable pub keepIf : {A : Type 0} → Bool → A → Reader A
@@ -46,11 +49,6 @@ keepIf true a s = got a s
 keepIf false a s = lost
 
 -- ---- tests among readers
-
-module _ {A B : Type 0} where
-  -- Two readers that go on alike.
-  onward-same : (g : Got A) {f h : A → Reader B} → ((a : A) (s : List ℕ) → f a s ≡ h a s) → onward g f ≡ onward g h
-  onward-same g e = λ i. onward g (λ a s. e a s i)
 
 -- What follows two readers follows the second.
 onward-into : {A B C : Type 0} (g : Got A) (f : A → Reader B) (h : B → Reader C) {k : A → Reader C} → ((a : A) (s : List ℕ) → onward (f a s) h ≡ k a s) → onward (onward g f) h ≡ onward g k
@@ -87,26 +85,39 @@ legalOnly-keep e s = by-test (legalCommand (e .command)) (λ h. rw (h, legalOnly
 
 -- Lines by ranges are lines whose numbers lie in their ranges.
 pub linesIn-is : (t : MessageType) (fs : List Field) (before s : List ℕ) →
-    linesIn t fs before s ≡ onward (lines fs s) (λ ns. keepIf (ranged t fs before ns) (before ++ ns))
-unfolding onward linesIn lines ranged keepIf
-linesIn-is t [] before s = ap (λ (l : List ℕ). got l s) (sym (append-nil before))
+    linesIn t fs before s ≡ onward (values fs s) (λ xs. keepIf (ranged t fs before xs) (placed fs xs before))
+unfolding onward linesIn values ranged keepIf
+linesIn-is t [] before s = refl
 linesIn-is t (f ∷ fs) before s =
     let lo = range t f before .lo in
     let hi = range t f before .hi in
-    let K : List ℕ → Reader (List ℕ) = λ ns. keepIf (ranged t (f ∷ fs) before ns) (before ++ ns) in
-    let F : ℕ → Reader (List ℕ) = λ n. linesIn t fs (before ++ (n ∷ [])) in
-    let step : (n : ℕ) (r : List ℕ) → onward (within lo hi n r) F ≡ onward (onward (lines fs r) (λ ns. pure (n ∷ ns))) K =
+    let K : List ℕ → Reader (List ℕ) = λ xs. keepIf (ranged t (f ∷ fs) before xs) (placed (f ∷ fs) xs before) in
+    let F : ℕ → Reader (List ℕ) = λ n. linesIn t fs (withNumber f n before) in
+    let step : (n : ℕ) (r : List ℕ) → onward (within lo hi n r) F ≡ onward (onward (values fs r) (λ xs. pure (n ∷ xs))) K =
     λ n r.
     ap (λ (g : Got ℕ). onward g F) (within-keep lo hi n r)
     ∙ keep-then (between lo hi n) n r F
-    ∙ ap (λ (g : Got (List ℕ)). onward g (keepIf (between lo hi n))) (linesIn-is t fs (before ++ (n ∷ [])) r)
-    ∙ onward-into (lines fs r) _ _
-    (λ ns u. keep-keep (between lo hi n) (ranged t fs (before ++ (n ∷ [])) ns) ((before ++ (n ∷ [])) ++ ns) u
-    ∙ ap (λ (l : List ℕ). keepIf (between lo hi n && ranged t fs (before ++ (n ∷ [])) ns) l u) (append-assoc before (n ∷ []) ns))
-    ∙ sym (onward-assoc (lines fs r) (λ ns. pure (n ∷ ns)) K) in
+    ∙ ap (λ (g : Got (List ℕ)). onward g (keepIf (between lo hi n))) (linesIn-is t fs (withNumber f n before) r)
+    ∙ onward-into (values fs r) _ _
+    (λ xs u. keep-keep (between lo hi n) (ranged t fs (withNumber f n before) xs) (placed fs xs (withNumber f n before)) u)
+    ∙ sym (onward-assoc (values fs r) (λ xs. pure (n ∷ xs)) K) in
     ap (λ (g : Got ℕ). onward g F) (lineIn-is (key f) lo hi s)
     ∙ onward-into (line (key f) s) _ _ step
-    ∙ sym (onward-assoc (line (key f) s) (λ n. _>>=_ (lines fs) (λ ns. pure (n ∷ ns))) K)
+    ∙ sym (onward-assoc (line (key f) s) (λ n. _>>=_ (values fs) (λ xs. pure (n ∷ xs))) K)
+
+-- What is kept was there.
+pub kept : {A : Type 0} (b : Bool) (x : A) (q : List ℕ) {y : A} {rest : List ℕ} → keepIf b x q ≡ got y rest → got x q ≡ got y rest
+unfolding keepIf
+kept true x q k = k
+kept false x q k = absurd (lost-never k)
+
+-- The numbers of a type's lines take no slot but those of its fields.
+pub linesIn-slotted : (t : MessageType) (s : List ℕ) {ns rest : List ℕ} → linesIn t (fields t) unset s ≡ got ns rest → Slotted t ns
+linesIn-slotted t s e =
+    let w = onward-sound (sym (linesIn-is t (fields t) unset s) ∙ e) in
+    let are = values-sound (fields t) s (w .first) in
+    got-same (λ l r. Slotted t l) (kept (ranged t (fields t) unset (w .value)) (placed (fields t) (w .value) unset) (w .left) (w .next))
+    (placed-slotted t (w .value) (are .count))
 
 -- ---- entries
 
@@ -194,11 +205,13 @@ module _ (t : MessageType) where
   keepMessage m = keepIf (legalMessage m) m
 
   -- Behind the numbers, which are as many as the type has fields.
-  entries-alike : (ns q : List ℕ) → length ns ≡ length (fields t) →
-      onward (keepIf (ranged t (fields t) [] ns) ns q) (messageInFrom t) ≡ onward (messageAfter t ns q) keepMessage
+  entries-alike : (xs q : List ℕ) → length xs ≡ length (fields t) →
+      onward (keepIf (ranged t (fields t) unset xs) (placed (fields t) xs unset) q) (messageInFrom t)
+      ≡ onward (messageAfter t (placed (fields t) xs unset) q) keepMessage
   unfolding onward keepMessage
-  entries-alike ns q n =
-      let b = ranged t (fields t) [] ns in
+  entries-alike xs q n =
+      let ns = placed (fields t) xs unset in
+      let b = ranged t (fields t) unset xs in
       let legal : List Entry → Bool = λ es. legalEntries (lowIn t ns) (highIn t ns) es in
       let found = entries (countIn t ns) q in
       keep-then b ns q (messageInFrom t)
@@ -206,16 +219,19 @@ module _ (t : MessageType) where
       ∙ ap (λ (g : Got Message). onward g (keepIf b)) (onward-into found _ _ (λ es u. keep-message (legal es) t ns es u))
       ∙ onward-into found _ _ (λ es u. keep-keep b (legal es) (messageOf t ns es) u)
       ∙ onward-found found (λ es. keepIf (b && legal es) (messageOf t ns es)) (λ es. keepIf (legalMessage (messageOf t ns es)) (messageOf t ns es))
-      (λ es u e. ap (λ (c : Bool). keepIf c (messageOf t ns es) u) (sym (ranged-legal t ns es n (entries-sound (countIn t ns) q e .count))))
+      (λ es u e. ap (λ (c : Bool). keepIf c (messageOf t ns es) u) (sym (ranged-legal t xs es n (entries-sound (countIn t ns) q e .count))))
       ∙ sym (onward-into found _ _ (λ es u. refl))
 
-  lines-alike : (r : List ℕ) → onward (linesIn t (fields t) [] r) (messageInFrom t) ≡ onward (messageFrom t r) keepMessage
+  lines-alike : (r : List ℕ) → onward (linesIn t (fields t) unset r) (messageInFrom t) ≡ onward (messageFrom t r) keepMessage
   lines-alike r =
-      let found = lines (fields t) r in
-      ap (λ (g : Got (List ℕ)). onward g (messageInFrom t)) (linesIn-is t (fields t) [] r)
-      ∙ onward-assoc found (λ ns. keepIf (ranged t (fields t) [] ns) ns) (messageInFrom t)
-      ∙ onward-found found _ _ (λ ns q e. entries-alike ns q (lines-sound (fields t) r e .count))
-      ∙ sym (onward-assoc found (messageAfter t) keepMessage)
+      let found = values (fields t) r in
+      let put : List ℕ → Reader (List ℕ) = λ xs. pure (placed (fields t) xs unset) in
+      ap (λ (g : Got (List ℕ)). onward g (messageInFrom t)) (linesIn-is t (fields t) unset r)
+      ∙ onward-assoc found (λ xs. keepIf (ranged t (fields t) unset xs) (placed (fields t) xs unset)) (messageInFrom t)
+      ∙ onward-found found _ _ (λ xs q e. entries-alike xs q (values-sound (fields t) r e .count))
+      ∙ sym (ap (λ (g : Got (List ℕ)). onward (onward g (messageAfter t)) keepMessage) (lines-values (fields t) unset r)
+      ∙ onward-into (onward found put) (messageAfter t) keepMessage (λ ns q. refl)
+      ∙ onward-into found put _ (λ xs q. onward-got _ refl))
 
 -- A message by ranges is a message that is legal.
 pub messageIn-is : (s : List ℕ) → messageIn s ≡ onward (message s) (λ m. keepIf (legalMessage m) m)

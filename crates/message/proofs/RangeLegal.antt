@@ -4,7 +4,7 @@ use Prim.Native.Nat.{ℕ, zero, suc, _-_, _≤_, max}
 use native.Mathlib.Omega.{arith}
 use mathlib.Core.Path.{_≡_, refl, sym, _∙_, ap, subst}
 use mathlib.Core.Bool.{Bool, true, false, cond, _&&_, and-true}
-use mathlib.Core.List.{List, [], _∷_, _++_}
+use mathlib.Core.List.{List, [], _∷_}
 use borrow.Author.Tests.{eq-eqb, eqb-true, eqb-false}
 use lib.Dec.{leb, eqb, leb·zero}
 use lib.ListN.{length, getD}
@@ -23,6 +23,9 @@ use Rattle.message.specs.Fields.{
   type=append-yes,
   type=append-no,
   Field,
+  term=,
+  from=,
+  to=,
   last=,
   ballot=,
   count=,
@@ -33,30 +36,30 @@ use Rattle.message.specs.Fields.{
   length=,
   ownFields,
   fields,
+  unset,
+  numberOf,
+  withNumber,
   countIn,
   bodyOf,
   messageOf,
 }
 use Rattle.message.specs.Range.{
-  Range,
   upTo,
-  from-to,
   toRange,
-  lastRange,
-  ballotRange,
-  countRange,
+  prevtermRange,
   range,
   lowIn,
   highIn,
 }
 use Rattle.message.proofs.FieldsLaws.{spelled}
 use Rattle.message.proofs.LegalLaws.{request-has, request-legal, yes-has, yes-legal, append-has, append-legal}
+use Rattle.message.proofs.TextLaws.{placed}
 
 -- Whether these numbers of these fields lie in their ranges, given the numbers before them.
 unfoldable pub ranged : MessageType → List Field → List ℕ → List ℕ → Bool
 ranged t [] before ns = true
 ranged t (f ∷ fs) before [] = true
-ranged t (f ∷ fs) before (n ∷ ns) = between (range t f before .lo) (range t f before .hi) n && ranged t fs (before ++ (n ∷ [])) ns
+ranged t (f ∷ fs) before (n ∷ ns) = between (range t f before .lo) (range t f before .hi) n && ranged t fs (withNumber f n before) ns
 
 -- ---- tests
 
@@ -77,7 +80,7 @@ under false b c d e x h = refl
 in-cond : (n y x hi : ℕ) → (n ≡ y → x ≡ 0) → x ≤ hi → x ≤ cond (eqb n y) 0 hi
 in-cond n y x hi zeroed h = by-test (eqb n y) (λ e. rw e (omega (arith, zeroed (eqb-true n y e)))) (λ e. rw e h)
 
-cond-in : (n y x hi : ℕ) → x ≤ cond (eqb n y) 0 hi → (x ≤ hi) × (n ≡ y → x ≡ 0)
+pub cond-in : (n y x hi : ℕ) → x ≤ cond (eqb n y) 0 hi → (x ≤ hi) × (n ≡ y → x ≡ 0)
 cond-in n y x hi h =
     by-test (eqb n y)
     (λ e.
@@ -97,21 +100,18 @@ cond-low n x h z =
     let p : 1 ≤ x = rw e at h in
     absurd (omega arith))
 
-not-zero : (x : ℕ) → (x ≡ 0 → ⊥) → 1 ≤ x
+pub not-zero : (x : ℕ) → (x ≡ 0 → ⊥) → 1 ≤ x
 not-zero zero h = absurd (h refl)
 not-zero (suc x) h = omega arith
 
 -- The range of prevterm: zero exactly with prev zero, and at most the term.
-abbrev prevtermRange : ℕ → ℕ → Range
-prevtermRange prev term = cond (eqb prev 0) (upTo 0) (from-to 1 term)
-
 prevterm-in : (prev term x : ℕ) → (x ≡ 0 → prev ≡ 0) → (prev ≡ 0 → x ≡ 0) → x ≤ term →
-    between (prevtermRange prev term .lo) (prevtermRange prev term .hi) x ≡ true
+    between (prevtermRange term prev .lo) (prevtermRange term prev .hi) x ≡ true
 prevterm-in prev term x f g h =
     by-test (eqb prev 0) (λ e. rw e (between-in 0 0 x (omega arith) (omega (arith, g (eqb-true prev 0 e)))))
     (λ e. rw e (between-in 1 term x (not-zero x (λ z. eqb-false prev 0 e (f z))) h))
 
-in-prevterm : (prev term x : ℕ) → between (prevtermRange prev term .lo) (prevtermRange prev term .hi) x ≡ true →
+in-prevterm : (prev term x : ℕ) → between (prevtermRange term prev .lo) (prevtermRange term prev .hi) x ≡ true →
     (x ≡ 0 → prev ≡ 0) × (prev ≡ 0 → x ≡ 0) × (x ≤ term)
 in-prevterm prev term x h =
     by-test (eqb prev 0)
@@ -122,13 +122,17 @@ in-prevterm prev term x h =
     let z : (1 ≤ x) × (x ≤ term) = between-true 1 term x (rw e at h) in
     (λ p. absurd (omega arith), λ p. absurd (eqb-false prev 0 e p), z .1))
 
+-- The numbers of term, from and to.
+abbrev head : ℕ → ℕ → ℕ → List ℕ
+head term from to = term ∷ from ∷ to ∷ 0 ∷ 0 ∷ 0 ∷ 0 ∷ []
+
 -- ---- the ranges of each type's own fields, of a message of term at least 1
 
 module _ (term from to : ℕ) (some-term : 1 ≤ term) where
   own-request : (last ballot : ℕ) →
       legalBody term (vote-request last ballot)
-      ≡ (ranged type=vote-request (last= ∷ ballot= ∷ []) (term ∷ from ∷ to ∷ []) (last ∷ ballot ∷ []) && true)
-  unfolding ranged range lastRange ballotRange
+      ≡ (ranged type=vote-request (last= ∷ ballot= ∷ []) (head term from to) (last ∷ ballot ∷ []) && true)
+  unfolding ranged range
   own-request last ballot =
       let A = between 0 (cond (eqb term 1) 0 limit) last in
       let B = between (cond (eqb last 0) 0 1) (term - 1) ballot in
@@ -149,8 +153,8 @@ module _ (term from to : ℕ) (some-term : 1 ≤ term) where
 
   own-yes : (last ballot : ℕ) (es : List Entry) →
       legalBody term (vote-yes last ballot es)
-      ≡ (ranged type=vote-yes (last= ∷ ballot= ∷ count= ∷ []) (term ∷ from ∷ to ∷ []) (last ∷ ballot ∷ length es ∷ []) && legalEntries 1 ballot es)
-  unfolding ranged range lastRange ballotRange countRange
+      ≡ (ranged type=vote-yes (last= ∷ ballot= ∷ count= ∷ []) (head term from to) (last ∷ ballot ∷ length es ∷ []) && legalEntries 1 ballot es)
+  unfolding ranged range
   own-yes last ballot es =
       let n = length es in
       let A = between 0 limit last in
@@ -177,13 +181,13 @@ module _ (term from to : ℕ) (some-term : 1 ≤ term) where
 
   own-append : (prev prevterm chosen : ℕ) (es : List Entry) →
       legalBody term (append prev prevterm chosen es)
-      ≡ (ranged type=append (prev= ∷ prevterm= ∷ chosen= ∷ count= ∷ []) (term ∷ from ∷ to ∷ []) (prev ∷ prevterm ∷ chosen ∷ length es ∷ [])
+      ≡ (ranged type=append (prev= ∷ prevterm= ∷ chosen= ∷ count= ∷ []) (head term from to) (prev ∷ prevterm ∷ chosen ∷ length es ∷ [])
       && legalEntries (max 1 prevterm) term es)
-  unfolding ranged range countRange
+  unfolding ranged range
   own-append prev prevterm chosen es =
       let n = length es in
       let A = between 0 limit prev in
-      let B = between (prevtermRange prev term .lo) (prevtermRange prev term .hi) prevterm in
+      let B = between (prevtermRange term prev .lo) (prevtermRange term prev .hi) prevterm in
       let C = between 0 limit chosen in
       let D = between (chosen - prev) (limit - prev) n in
       let L = legalEntries (max 1 prevterm) term es in
@@ -214,12 +218,12 @@ module _ (term from to : ℕ) (some-term : 1 ≤ term) where
         entries-legal = v .1;
       }))
 
-  own-none : legalBody term vote-no ≡ (ranged type=vote-no [] (term ∷ from ∷ to ∷ []) [] && true)
+  own-none : legalBody term vote-no ≡ (ranged type=vote-no [] (head term from to) [] && true)
   unfolding legalBody ranged
   own-none = refl
 
-  own-place : (f : Field) (t : MessageType) (place : ℕ) → range t f (term ∷ from ∷ to ∷ []) ≡ upTo limit →
-      leb place limit ≡ (ranged t (f ∷ []) (term ∷ from ∷ to ∷ []) (place ∷ []) && true)
+  own-place : (f : Field) (t : MessageType) (place : ℕ) → range t f (head term from to) ≡ upTo limit →
+      leb place limit ≡ (ranged t (f ∷ []) (head term from to) (place ∷ []) && true)
   unfolding ranged between
   own-place f t place e = rw (e, leb·zero place, and-true, and-true)
 
@@ -237,7 +241,7 @@ at-zero x =
     (λ h. eq-eqb x 0 (omega (arith, between-true 0 0 x h)))
 
 legalTo-range : (t : MessageType) (to : ℕ) (ns : List ℕ) (es : List Entry) → legalTo to (bodyOf t ns es) ≡ between (toRange t .lo) (toRange t .hi) to
-unfolding legalTo bodyOf toRange
+unfolding legalTo bodyOf
 legalTo-range type=vote-request to ns es = at-zero to
 legalTo-range type=vote-yes to ns es = refl
 legalTo-range type=vote-no to ns es = refl
@@ -245,59 +249,68 @@ legalTo-range type=append to ns es = refl
 legalTo-range type=append-yes to ns es = refl
 legalTo-range type=append-no to ns es = refl
 
+-- The numbers xs of a type's lines, which are ns in their slots.
 module _ (t : MessageType) (es : List Entry) where
-  abbrev Same : List ℕ → Type 0
-  Same ns = legalMessage (messageOf t ns es) ≡ (ranged t (fields t) [] ns && legalEntries (lowIn t ns) (highIn t ns) es)
+  abbrev Told : List ℕ → List ℕ → Type 0
+  Told ns xs = legalMessage (messageOf t ns es) ≡ (ranged t (fields t) unset xs && legalEntries (lowIn t ns) (highIn t ns) es)
 
-  abbrev OwnSame : ℕ → List ℕ → List ℕ → Type 0
-  OwnSame term head own =
-      legalBody term (bodyOf t (head ++ own) es)
-      ≡ (ranged t (ownFields t) head own && legalEntries (lowIn t (head ++ own)) (highIn t (head ++ own)) es)
+  abbrev Claim : List ℕ → Type 0
+  Claim xs = length es ≡ countIn t (placed (fields t) xs unset) → Told (placed (fields t) xs unset) xs
 
-  all-fields : (term from to : ℕ) (own : List ℕ) → (1 ≤ term → OwnSame term (term ∷ from ∷ to ∷ []) own) → Same (term ∷ from ∷ to ∷ own)
-  unfolding legalMessage messageOf ranged range fields
-  all-fields term from to own h =
-      let ns = term ∷ from ∷ to ∷ own in
-      rw (legalTo-range t to ns es)
-      (under (between 1 term-most term) (between 1 hubs-most from) (between (toRange t .lo) (toRange t .hi) to)
-      (ranged t (ownFields t) (term ∷ from ∷ to ∷ []) own) (legalEntries (lowIn t ns) (highIn t ns) es) (legalBody term (bodyOf t ns es))
-      (λ a. h (between-true 1 term-most term a .0)))
+  module _ (ns own : List ℕ) where
+    abbrev before : List ℕ
+    before = head (numberOf term= ns) (numberOf from= ns) (numberOf to= ns)
 
-  -- The same without entries.
-  all-fields-none : (term from to : ℕ) (own : List ℕ) → length es ≡ 0 →
-      (1 ≤ term → legalBody term (bodyOf t (term ∷ from ∷ to ∷ own) es) ≡ (ranged t (ownFields t) (term ∷ from ∷ to ∷ []) own && true)) →
-      Same (term ∷ from ∷ to ∷ own)
-  all-fields-none term from to own e h =
-      let ns = term ∷ from ∷ to ∷ own in
-      all-fields term from to own
-      (λ s. h s ∙ ap (λ (b : Bool). ranged t (ownFields t) (term ∷ from ∷ to ∷ []) own && b) (none-legal (lowIn t ns) (highIn t ns) es e))
+    all-fields :
+        (1 ≤ numberOf term= ns → legalBody (numberOf term= ns) (bodyOf t ns es) ≡ (ranged t (ownFields t) before own && legalEntries (lowIn t ns) (highIn t ns) es))
+        → Told ns (numberOf term= ns ∷ numberOf from= ns ∷ numberOf to= ns ∷ own)
+    unfolding legalMessage messageOf ranged range fields
+    all-fields h =
+        rw (legalTo-range t (numberOf to= ns) ns es)
+        (under (between 1 term-most (numberOf term= ns)) (between 1 hubs-most (numberOf from= ns)) (between (toRange t .lo) (toRange t .hi) (numberOf to= ns))
+        (ranged t (ownFields t) before own) (legalEntries (lowIn t ns) (highIn t ns) es) (legalBody (numberOf term= ns) (bodyOf t ns es))
+        (λ a. h (between-true 1 term-most (numberOf term= ns) a .0)))
 
--- A message is legal exactly if its numbers lie in their ranges and its entries are legal.
-pub ranged-legal : (t : MessageType) (ns : List ℕ) (es : List Entry) → length ns ≡ length (fields t) → length es ≡ countIn t ns →
-    legalMessage (messageOf t ns es) ≡ (ranged t (fields t) [] ns && legalEntries (lowIn t ns) (highIn t ns) es)
+    -- The same without entries.
+    all-fields-none : length es ≡ 0 →
+        (1 ≤ numberOf term= ns → legalBody (numberOf term= ns) (bodyOf t ns es) ≡ (ranged t (ownFields t) before own && true))
+        → Told ns (numberOf term= ns ∷ numberOf from= ns ∷ numberOf to= ns ∷ own)
+    all-fields-none e h =
+        all-fields (λ s. h s ∙ ap (λ (b : Bool). ranged t (ownFields t) before own && b) (none-legal (lowIn t ns) (highIn t ns) es e))
+
+-- A message is legal exactly if the numbers of its lines lie in their ranges and its entries are legal.
+pub ranged-legal : (t : MessageType) (xs : List ℕ) (es : List Entry) → length xs ≡ length (fields t) → length es ≡ countIn t (placed (fields t) xs unset) →
+    legalMessage (messageOf t (placed (fields t) xs unset) es)
+    ≡ (ranged t (fields t) unset xs && legalEntries (lowIn t (placed (fields t) xs unset)) (highIn t (placed (fields t) xs unset)) es)
 unfolding fields ownFields countIn bodyOf lowIn highIn range legalBody
-ranged-legal type=vote-request ns es n h =
-    let at : ℕ → ℕ = λ i. getD ns i 0 in
-    subst (Same type=vote-request es) (spelled 5 ns n)
-    (all-fields-none type=vote-request es (at 0) (at 1) (at 2) (at 3 ∷ at 4 ∷ []) h (λ s. own-request (at 0) (at 1) (at 2) s (at 3) (at 4)))
-ranged-legal type=vote-yes ns es n h =
-    let at : ℕ → ℕ = λ i. getD ns i 0 in
-    subst (Same type=vote-yes es) (spelled 6 ns n)
-    (subst (λ (c : ℕ). Same type=vote-yes es (at 0 ∷ at 1 ∷ at 2 ∷ at 3 ∷ at 4 ∷ c ∷ [])) h
-    (all-fields type=vote-yes es (at 0) (at 1) (at 2) (at 3 ∷ at 4 ∷ length es ∷ []) (λ s. own-yes (at 0) (at 1) (at 2) s (at 3) (at 4) es)))
-ranged-legal type=vote-no ns es n h =
-    let at : ℕ → ℕ = λ i. getD ns i 0 in
-    subst (Same type=vote-no es) (spelled 3 ns n) (all-fields-none type=vote-no es (at 0) (at 1) (at 2) [] h (λ s. own-none (at 0) (at 1) (at 2) s))
-ranged-legal type=append ns es n h =
-    let at : ℕ → ℕ = λ i. getD ns i 0 in
-    subst (Same type=append es) (spelled 7 ns n)
-    (subst (λ (c : ℕ). Same type=append es (at 0 ∷ at 1 ∷ at 2 ∷ at 3 ∷ at 4 ∷ at 5 ∷ c ∷ [])) h
-    (all-fields type=append es (at 0) (at 1) (at 2) (at 3 ∷ at 4 ∷ at 5 ∷ length es ∷ []) (λ s. own-append (at 0) (at 1) (at 2) s (at 3) (at 4) (at 5) es)))
-ranged-legal type=append-yes ns es n h =
-    let at : ℕ → ℕ = λ i. getD ns i 0 in
-    subst (Same type=append-yes es) (spelled 4 ns n)
-    (all-fields-none type=append-yes es (at 0) (at 1) (at 2) (at 3 ∷ []) h (λ s. own-place (at 0) (at 1) (at 2) s end= type=append-yes (at 3) refl))
-ranged-legal type=append-no ns es n h =
-    let at : ℕ → ℕ = λ i. getD ns i 0 in
-    subst (Same type=append-no es) (spelled 4 ns n)
-    (all-fields-none type=append-no es (at 0) (at 1) (at 2) (at 3 ∷ []) h (λ s. own-place (at 0) (at 1) (at 2) s length= type=append-no (at 3) refl))
+ranged-legal type=vote-request xs es n =
+    let at : ℕ → ℕ = λ i. getD xs i 0 in
+    subst (Claim type=vote-request es) (spelled 5 xs n)
+    (λ h. all-fields-none type=vote-request es (at 0 ∷ at 1 ∷ at 2 ∷ at 3 ∷ at 4 ∷ 0 ∷ 0 ∷ []) (at 3 ∷ at 4 ∷ []) h
+    (λ s. own-request (at 0) (at 1) (at 2) s (at 3) (at 4)))
+ranged-legal type=vote-yes xs es n =
+    let at : ℕ → ℕ = λ i. getD xs i 0 in
+    subst (Claim type=vote-yes es) (spelled 6 xs n)
+    (λ h. subst (λ (c : ℕ). Told type=vote-yes es (at 0 ∷ at 1 ∷ at 2 ∷ at 3 ∷ at 4 ∷ 0 ∷ c ∷ []) (at 0 ∷ at 1 ∷ at 2 ∷ at 3 ∷ at 4 ∷ c ∷ [])) h
+    (all-fields type=vote-yes es (at 0 ∷ at 1 ∷ at 2 ∷ at 3 ∷ at 4 ∷ 0 ∷ length es ∷ []) (at 3 ∷ at 4 ∷ length es ∷ [])
+    (λ s. own-yes (at 0) (at 1) (at 2) s (at 3) (at 4) es)))
+ranged-legal type=vote-no xs es n =
+    let at : ℕ → ℕ = λ i. getD xs i 0 in
+    subst (Claim type=vote-no es) (spelled 3 xs n)
+    (λ h. all-fields-none type=vote-no es (at 0 ∷ at 1 ∷ at 2 ∷ 0 ∷ 0 ∷ 0 ∷ 0 ∷ []) [] h (λ s. own-none (at 0) (at 1) (at 2) s))
+ranged-legal type=append xs es n =
+    let at : ℕ → ℕ = λ i. getD xs i 0 in
+    subst (Claim type=append es) (spelled 7 xs n)
+    (λ h. subst (λ (c : ℕ). Told type=append es (at 0 ∷ at 1 ∷ at 2 ∷ at 3 ∷ at 4 ∷ at 5 ∷ c ∷ []) (at 0 ∷ at 1 ∷ at 2 ∷ at 3 ∷ at 4 ∷ at 5 ∷ c ∷ [])) h
+    (all-fields type=append es (at 0 ∷ at 1 ∷ at 2 ∷ at 3 ∷ at 4 ∷ at 5 ∷ length es ∷ []) (at 3 ∷ at 4 ∷ at 5 ∷ length es ∷ [])
+    (λ s. own-append (at 0) (at 1) (at 2) s (at 3) (at 4) (at 5) es)))
+ranged-legal type=append-yes xs es n =
+    let at : ℕ → ℕ = λ i. getD xs i 0 in
+    subst (Claim type=append-yes es) (spelled 4 xs n)
+    (λ h. all-fields-none type=append-yes es (at 0 ∷ at 1 ∷ at 2 ∷ at 3 ∷ 0 ∷ 0 ∷ 0 ∷ []) (at 3 ∷ []) h
+    (λ s. own-place (at 0) (at 1) (at 2) s end= type=append-yes (at 3) refl))
+ranged-legal type=append-no xs es n =
+    let at : ℕ → ℕ = λ i. getD xs i 0 in
+    subst (Claim type=append-no es) (spelled 4 xs n)
+    (λ h. all-fields-none type=append-no es (at 0 ∷ at 1 ∷ at 2 ∷ at 3 ∷ 0 ∷ 0 ∷ 0 ∷ []) (at 3 ∷ []) h
+    (λ s. own-place (at 0) (at 1) (at 2) s length= type=append-no (at 3) refl))

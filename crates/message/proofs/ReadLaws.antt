@@ -48,11 +48,13 @@ use Rattle.message.specs.Fields.{
   length=,
   ownFields,
   fields,
+  slot,
+  numberOf,
   typeOf,
   numbers,
 }
 use Rattle.message.specs.Text.{type=, name, key, linesText, entryText, entriesText, text, message, ifLegal, read, partFrom, partTo}
-use Rattle.message.proofs.LegalLaws.{sizes, Most, legal-held}
+use Rattle.message.proofs.LegalLaws.{sizes, Most, most-at, legal-held}
 use Rattle.message.proofs.TextLaws.{AllRanged, message-written, message-sound}
 
 -- ---- legal entries
@@ -102,11 +104,11 @@ key-most length= = omega arith
 lines-most : (fs : List Field) (ns : List ℕ) → Most ns → length (linesText fs ns) ≤ length fs * 20
 unfolding linesText
 lines-most [] ns h = omega arith
-lines-most (f ∷ fs) [] h = omega arith
-lines-most (f ∷ fs) (n ∷ ns) h =
-    let first : length (lineText (key f) n) ≤ length (key f) + 11 = line-most (key f) n (h .0) in
+lines-most (f ∷ fs) ns h =
+    let n = numberOf f ns in
+    let first : length (lineText (key f) n) ≤ length (key f) + 11 = line-most (key f) n (most-at ns (slot f) h) in
     let k : length (key f) ≤ 9 = key-most f in
-    let others : length (linesText fs ns) ≤ length fs * 20 = lines-most fs ns (h .1) in
+    let others : length (linesText fs ns) ≤ length fs * 20 = lines-most fs ns h in
     simp length-append (omega arith)
 
 name-most : (t : MessageType) → length (name t) ≤ 12

@@ -1,7 +1,7 @@
 -- The fields of each type of message in the order of rule R28: one table for all that writes or reads messages. Assumes nothing.
 use Prim.Native.Nat.{ℕ}
 use mathlib.Core.List.{List, [], _∷_}
-use lib.ListN.{length, getD}
+use lib.ListN.{length, getD, set}
 use Rattle.command.specs.Entry.{Entry}
 use Rattle.message.specs.Message.{Message, Body, vote-request, vote-yes, vote-no, append, append-yes, append-no}
 
@@ -40,7 +40,35 @@ ownFields type=append-no = length= ∷ []
 unfoldable pub fields : MessageType → List Field
 fields t = term= ∷ from= ∷ to= ∷ ownFields t
 
--- ---- from a message to its type and its numbers, in the order of the fields
+-- ---- the slots of the numbers
+
+-- The numbers of a message stand in seven slots, a field's always in the same one. Fields that no type has together share one.
+abbrev pub slot : Field → ℕ
+slot term= = 0
+slot from= = 1
+slot to= = 2
+slot last= = 3
+slot ballot= = 4
+slot count= = 6
+slot prev= = 3
+slot prevterm= = 4
+slot chosen= = 5
+slot end= = 3
+slot length= = 3
+
+-- No number yet.
+abbrev pub unset : List ℕ
+unset = 0 ∷ 0 ∷ 0 ∷ 0 ∷ 0 ∷ 0 ∷ 0 ∷ []
+
+-- The number of a field.
+abbrev pub numberOf : Field → List ℕ → ℕ
+numberOf f ns = getD ns (slot f) 0
+
+-- The numbers, with this one for a field.
+abbrev pub withNumber : Field → ℕ → List ℕ → List ℕ
+withNumber f n ns = set ns (slot f) n
+
+-- ---- from a message to its type and its numbers, each in its slot; 0 where its type has no field
 
 unfoldable pub typeOf : Body → MessageType
 typeOf (vote-request last ballot) = type=vote-request
@@ -51,12 +79,12 @@ typeOf (append-yes end) = type=append-yes
 typeOf (append-no length) = type=append-no
 
 unfoldable pub ownNumbers : Body → List ℕ
-ownNumbers (vote-request last ballot) = last ∷ ballot ∷ []
-ownNumbers (vote-yes last ballot entries) = last ∷ ballot ∷ length entries ∷ []
-ownNumbers vote-no = []
+ownNumbers (vote-request last ballot) = last ∷ ballot ∷ 0 ∷ 0 ∷ []
+ownNumbers (vote-yes last ballot entries) = last ∷ ballot ∷ 0 ∷ length entries ∷ []
+ownNumbers vote-no = 0 ∷ 0 ∷ 0 ∷ 0 ∷ []
 ownNumbers (append prev prevterm chosen entries) = prev ∷ prevterm ∷ chosen ∷ length entries ∷ []
-ownNumbers (append-yes end) = end ∷ []
-ownNumbers (append-no n) = n ∷ []
+ownNumbers (append-yes end) = end ∷ 0 ∷ 0 ∷ 0 ∷ []
+ownNumbers (append-no n) = n ∷ 0 ∷ 0 ∷ 0 ∷ []
 
 unfoldable pub numbers : Message → List ℕ
 numbers m = m .term ∷ m .from ∷ m .to ∷ ownNumbers (m .body)
@@ -66,19 +94,20 @@ numbers m = m .term ∷ m .from ∷ m .to ∷ ownNumbers (m .body)
 -- How many entries follow these numbers.
 unfoldable pub countIn : MessageType → List ℕ → ℕ
 countIn type=vote-request ns = 0
-countIn type=vote-yes ns = getD ns 5 0
+countIn type=vote-yes ns = numberOf count= ns
 countIn type=vote-no ns = 0
-countIn type=append ns = getD ns 6 0
+countIn type=append ns = numberOf count= ns
 countIn type=append-yes ns = 0
 countIn type=append-no ns = 0
 
 unfoldable pub bodyOf : MessageType → List ℕ → List Entry → Body
-bodyOf type=vote-request ns entries = vote-request (getD ns 3 0) (getD ns 4 0)
-bodyOf type=vote-yes ns entries = vote-yes (getD ns 3 0) (getD ns 4 0) entries
+bodyOf type=vote-request ns entries = vote-request (numberOf last= ns) (numberOf ballot= ns)
+bodyOf type=vote-yes ns entries = vote-yes (numberOf last= ns) (numberOf ballot= ns) entries
 bodyOf type=vote-no ns entries = vote-no
-bodyOf type=append ns entries = append (getD ns 3 0) (getD ns 4 0) (getD ns 5 0) entries
-bodyOf type=append-yes ns entries = append-yes (getD ns 3 0)
-bodyOf type=append-no ns entries = append-no (getD ns 3 0)
+bodyOf type=append ns entries = append (numberOf prev= ns) (numberOf prevterm= ns) (numberOf chosen= ns) entries
+bodyOf type=append-yes ns entries = append-yes (numberOf end= ns)
+bodyOf type=append-no ns entries = append-no (numberOf length= ns)
 
 unfoldable pub messageOf : MessageType → List ℕ → List Entry → Message
-messageOf t ns entries = record { term = getD ns 0 0; from = getD ns 1 0; to = getD ns 2 0; body = bodyOf t ns entries }
+messageOf t ns entries =
+    record { term = numberOf term= ns; from = numberOf from= ns; to = numberOf to= ns; body = bodyOf t ns entries }

@@ -6,7 +6,5 @@ pub mod Range
 pub mod Opening
 pub mod Walk
 pub mod Answer
-pub mod Found
-pub mod Part
 pub mod Rows
 pub mod Write

@@ -1,10 +1,9 @@
 -- Every number of a message lies in a range that the numbers before it fix, and no such range is empty. A reader by ranges fails at the
 -- first number that no legal message has there; it accepts the same texts as `read`, with the same messages. Assumes nothing.
 use Prim.Native.Nat.{ℕ, zero, suc, _-_, max}
-use mathlib.Core.Bool.{true, false, cond}
-use mathlib.Core.List.{List, [], _∷_, _++_}
+use mathlib.Core.Bool.{Bool, true, false, cond, _&&_}
+use mathlib.Core.List.{List, [], _∷_}
 use lib.Dec.{eqb}
-use lib.ListN.{getD}
 use Rattle.kinds.specs.Sizes.{hubs-most, term-most, limit}
 use Rattle.text.specs.Reader.{got, lost, Reader, _>>=_, _>>_, pure, literal}
 use Rattle.text.specs.Hex.{hexBytes}
@@ -34,6 +33,9 @@ use Rattle.message.specs.Fields.{
   end=,
   length=,
   fields,
+  unset,
+  numberOf,
+  withNumber,
   countIn,
   messageOf,
 }
@@ -52,53 +54,61 @@ from-to lo hi = record { lo = lo; hi = hi }
 
 -- ---- the ranges of fields that differ by type
 
-unfoldable pub toRange : MessageType → Range
-toRange type=vote-request = upTo 0
-toRange type=vote-yes = from-to 1 hubs-most
-toRange type=vote-no = from-to 1 hubs-most
-toRange type=append = from-to 1 hubs-most
-toRange type=append-yes = from-to 1 hubs-most
-toRange type=append-no = from-to 1 hubs-most
+abbrev pub isVoteRequest : MessageType → Bool
+isVoteRequest type=vote-request = true
+isVoteRequest type=vote-yes = false
+isVoteRequest type=vote-no = false
+isVoteRequest type=append = false
+isVoteRequest type=append-yes = false
+isVoteRequest type=append-no = false
 
--- A request of term 1 has ballot 0, and so last 0.
-unfoldable pub lastRange : MessageType → ℕ → Range
-lastRange type=vote-request term = upTo (cond (eqb term 1) 0 limit)
-lastRange type=vote-yes term = upTo limit
-lastRange type=vote-no term = upTo limit
-lastRange type=append term = upTo limit
-lastRange type=append-yes term = upTo limit
-lastRange type=append-no term = upTo limit
+abbrev pub isAppend : MessageType → Bool
+isAppend type=vote-request = false
+isAppend type=vote-yes = false
+isAppend type=vote-no = false
+isAppend type=append = true
+isAppend type=append-yes = false
+isAppend type=append-no = false
 
-unfoldable pub ballotRange : MessageType → ℕ → ℕ → Range
-ballotRange type=vote-request term last = from-to (cond (eqb last 0) 0 1) (term - 1)
-ballotRange type=vote-yes term last = upTo (term - 1)
-ballotRange type=vote-no term last = upTo (term - 1)
-ballotRange type=append term last = upTo (term - 1)
-ballotRange type=append-yes term last = upTo (term - 1)
-ballotRange type=append-no term last = upTo (term - 1)
+-- A vote-request goes to all.
+abbrev pub toRange : MessageType → Range
+toRange t = from-to (cond (isVoteRequest t) 0 1) (cond (isVoteRequest t) 0 hubs-most)
 
--- Of an append, the numbers 3 and 5 are prev and chosen; of a vote-yes, 3 and 4 are last and ballot.
-unfoldable pub countRange : MessageType → List ℕ → Range
-countRange type=vote-request ns = upTo 0
-countRange type=vote-yes ns = upTo (cond (eqb (getD ns 4 0) 0) 0 (limit - getD ns 3 0))
-countRange type=vote-no ns = upTo 0
-countRange type=append ns = from-to (getD ns 5 0 - getD ns 3 0) (limit - getD ns 3 0)
-countRange type=append-yes ns = upTo 0
-countRange type=append-no ns = upTo 0
+-- A vote-request of term 1 has ballot 0, and so last 0.
+abbrev pub lastRange : MessageType → ℕ → Range
+lastRange t term = upTo (cond (isVoteRequest t && eqb term 1) 0 limit)
 
--- The range of a field, given the numbers before it: term, from, to, and the type's own.
+-- A vote-request's is 0 only with last 0.
+abbrev pub ballotRange : MessageType → ℕ → ℕ → Range
+ballotRange t term last = from-to (cond (isVoteRequest t) (cond (eqb last 0) 0 1) 0) (term - 1)
+
+-- 0 exactly with prev 0.
+abbrev pub prevtermRange : ℕ → ℕ → Range
+prevtermRange term prev = from-to (cond (eqb prev 0) 0 1) (cond (eqb prev 0) 0 term)
+
+-- An append has as many entries as chosen asks for; a vote-yes of ballot 0 has none.
+abbrev pub countRange : MessageType → List ℕ → Range
+countRange t ns =
+    from-to (cond (isAppend t) (numberOf chosen= ns - numberOf prev= ns) 0)
+    (cond (isAppend t) (limit - numberOf prev= ns) (cond (eqb (numberOf ballot= ns) 0) 0 (limit - numberOf last= ns)))
+
+-- The range of a field, given the numbers before it.
 unfoldable pub range : MessageType → Field → List ℕ → Range
 range t term= ns = from-to 1 term-most
 range t from= ns = from-to 1 hubs-most
 range t to= ns = toRange t
-range t last= ns = lastRange t (getD ns 0 0)
-range t ballot= ns = ballotRange t (getD ns 0 0) (getD ns 3 0)
+range t last= ns = lastRange t (numberOf term= ns)
+range t ballot= ns = ballotRange t (numberOf term= ns) (numberOf last= ns)
 range t count= ns = countRange t ns
 range t prev= ns = upTo limit
-range t prevterm= ns = cond (eqb (getD ns 3 0) 0) (upTo 0) (from-to 1 (getD ns 0 0))
+range t prevterm= ns = prevtermRange (numberOf term= ns) (numberOf prev= ns)
 range t chosen= ns = upTo limit
 range t end= ns = upTo limit
 range t length= ns = upTo limit
+
+-- The line of a field, its number in its range.
+abbrev pub fieldIn : MessageType → Field → List ℕ → Reader ℕ
+fieldIn t f ns = lineIn (key f) (range t f ns .lo) (range t f ns .hi)
 
 -- ---- the range of the entries' terms, given all numbers
 
@@ -106,15 +116,15 @@ unfoldable pub lowIn : MessageType → List ℕ → ℕ
 lowIn type=vote-request ns = 1
 lowIn type=vote-yes ns = 1
 lowIn type=vote-no ns = 1
-lowIn type=append ns = max 1 (getD ns 4 0)
+lowIn type=append ns = max 1 (numberOf prevterm= ns)
 lowIn type=append-yes ns = 1
 lowIn type=append-no ns = 1
 
 unfoldable pub highIn : MessageType → List ℕ → ℕ
 highIn type=vote-request ns = 0
-highIn type=vote-yes ns = getD ns 4 0
+highIn type=vote-yes ns = numberOf ballot= ns
 highIn type=vote-no ns = 0
-highIn type=append ns = getD ns 0 0
+highIn type=append ns = numberOf term= ns
 highIn type=append-yes ns = 0
 highIn type=append-no ns = 0
 
@@ -124,8 +134,8 @@ highIn type=append-no ns = 0
 unfoldable pub linesIn : MessageType → List Field → List ℕ → Reader (List ℕ)
 linesIn t [] ns = pure ns
 linesIn t (f ∷ fs) ns = do
-  n ← lineIn (key f) (range t f ns .lo) (range t f ns .hi)
-  linesIn t fs (ns ++ (n ∷ []))
+  n ← fieldIn t f ns
+  linesIn t fs (withNumber f n ns)
 
 -- An entry, if its command is legal. It stands for no text.
 unfoldable pub legalOnly : Entry → Reader Entry
@@ -153,6 +163,6 @@ unfoldable pub messageIn : Reader Message
 messageIn = do
   literal type=
   t ← typeAmong types
-  ns ← linesIn t (fields t) []
+  ns ← linesIn t (fields t) unset
   es ← entriesIn (countIn t ns) (lowIn t ns) (highIn t ns)
   pure (messageOf t ns es)

@@ -37,6 +37,9 @@ use Rattle.message.specs.Fields.{
   end=,
   length=,
   fields,
+  unset,
+  numberOf,
+  withNumber,
   typeOf,
   numbers,
   countIn,
@@ -79,8 +82,7 @@ key length= = ascii "length="
 -- A line for each field.
 unfoldable pub linesText : List Field → List ℕ → List ℕ
 linesText [] ns = []
-linesText (f ∷ fs) [] = []
-linesText (f ∷ fs) (n ∷ ns) = lineText (key f) n ++ linesText fs ns
+linesText (f ∷ fs) ns = lineText (key f) (numberOf f ns) ++ linesText fs ns
 
 -- `entry=`, its term, `:`, 32 lower-case hex digits.
 unfoldable pub entryText : Entry → List ℕ
@@ -106,13 +108,12 @@ typeAmong (t ∷ ts) s = elim (literal (name t ++ LF) s) [ got found rest ↦ go
 unfoldable pub types : List MessageType
 types = type=vote-request ∷ type=vote-yes ∷ type=vote-no ∷ type=append ∷ type=append-yes ∷ type=append-no ∷ []
 
--- A line for each field, in order.
-unfoldable pub lines : List Field → Reader (List ℕ)
-lines [] = pure []
-lines (f ∷ fs) = do
+-- A line for each field, in order; ns are the numbers so far.
+unfoldable pub lines : List Field → List ℕ → Reader (List ℕ)
+lines [] ns = pure ns
+lines (f ∷ fs) ns = do
   n ← line (key f)
-  ns ← lines fs
-  pure (n ∷ ns)
+  lines fs (withNumber f n ns)
 
 unfoldable pub entry : Reader Entry
 entry = do
@@ -135,7 +136,7 @@ unfoldable pub message : Reader Message
 message = do
   literal type=
   t ← typeAmong types
-  ns ← lines (fields t)
+  ns ← lines (fields t) unset
   es ← entries (countIn t ns)
   pure (messageOf t ns es)
 

@@ -15,14 +15,15 @@ use Rattle.message.specs.Legal.{legalMessage}
 use Rattle.message.specs.Fields.{countIn}
 use Rattle.message.specs.Text.{read, partFrom}
 use Rattle.message.specs.Walk.{entriesFrom, Lie}
-use Rattle.message.specs.Answer.{bodyAs, fieldsOf, readAs}
+use Rattle.message.specs.Answer.{bodyAs, fieldsOf}
+use Rattle.reader.specs.Answer.{readAs}
 use Rattle.message.specs.Write.{countOf}
 use Rattle.message.specs.declared.Body.{Body}
 use Rattle.message.specs.declared.Body.the-variants.{VoteYes, Append, AppendYes}
 use Rattle.message.specs.declared.Fields.{Fields}
-use Rattle.message.specs.declared.Read.the-variants.{Message as Read·Message, Refused}
+use Rattle.reader.specs.declared.Read.the-variants.{Message as Read·Message, Refused}
 use Rattle.message.proofs.ReadLaws.{read-sound}
-use Rattle.message.proofs.WalkLaws.{part-follow}
+use Rattle.entries.proofs.WalkLaws.{part-follow}
 use Rattle.state.specs.declared.Head.{Head}
 use Rattle.state.specs.State.{Kept, Lost, follower, candidate, leader, State}
 use Rattle.state.specs.Image.{roleOf}

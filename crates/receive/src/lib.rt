@@ -20,7 +20,7 @@ use kinds::Hub;
 use kinds::Place;
 use message::Body;
 use message::Fields;
-use message::Read;
+use reader::Read;
 use state::Head;
 use step::Group;
 
@@ -288,7 +288,7 @@ pub fn receive_at(g: Group, state: &mut [u8], input: &[u8], out: &mut [u8]) -> u
     requires { ⌜ Ready (whoIn g) (now state) × (text-room ≤ length (now out)) ⌝ }
     ensures { λ r. ⌜ Gives (heard (whoIn g) (stateIn (now (state .entry))) (read (now (input .entry)))) (now (state .entry)) (now (out .entry)) r (now (state .exit)) (now (out .exit)) ⌝ }
 {
-    let Read::Message { fields, entries } = message::read_message(input) else {
+    let Read::Message { fields, entries } = reader::read_message(input) else {
         return BAD_MESSAGE;
     };
     let told = receive_message(g, state, fields, input, entries, out);

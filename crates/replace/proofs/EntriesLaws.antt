@@ -14,7 +14,7 @@ use Rattle.rows.proofs.RowLaws.{rowBytes-length}
 use Rattle.rows.specs.declared.Words.{Words}
 use Rattle.rows.specs.Words.{commandIn, rowWords}
 use Rattle.rows.proofs.WordsLaws.{row-words}
-use Rattle.message.proofs.WalkLaws.{Walked, lie-none}
+use Rattle.entries.proofs.WalkLaws.{Walked, lie-none}
 
 -- No entry is left.
 pub put-none : (n to : ℕ) (s l : List ℕ) → Lie n s → n ≤ 0 → sets l to (bytesOf logRow (entriesFrom n s)) ≡ l

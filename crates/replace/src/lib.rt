@@ -10,9 +10,9 @@ ghost use Rattle.state.specs.Image.{logRow, image, stateIn};
 ghost use Rattle.rules.specs.Receive.{fits};
 ghost use Rattle.step.specs.Promise.{whoIn, Ready, HearsAppend};
 ghost use Rattle.replace.specs.Taken.{takenBy, Followed, Heard};
+use entries::EntryAt;
 use kinds::Place;
 use kinds::Term;
-use message::EntryAt;
 use rows::Words;
 use state::Head;
 use step::Group;
@@ -42,7 +42,7 @@ fn put_entries(state: &mut [u8], row: usize, count: u32, text: &[u8], at: usize)
             a,
             b,
             next,
-        } = message::next_entry(text, &table, from, 1, TERM_MOST)
+        } = entries::next_entry(text, &table, from, 1, TERM_MOST)
         else {
             return;
         };

@@ -66,6 +66,10 @@ module _ {A B : Type 0} where
   onward-never (got a r) f h = onward-got f refl ∙ h a r
   onward-never lost f h = onward-lost f refl
 
+  -- Two readers that go on alike.
+  pub onward-same : (g : Got A) {f h : A → Reader B} → ((a : A) (s : List ℕ) → f a s ≡ h a s) → onward g f ≡ onward g h
+  onward-same g e = λ i. onward g (λ a s. e a s i)
+
   -- Where both find something, the first found something.
   pub onward-sound : {g : Got A} {f : A → Reader B} {b : B} {r : List ℕ} → onward g f ≡ got b r → Went g f b r
   onward-sound {g} {f} {b} {r} e = go g refl

@@ -12,9 +12,25 @@ use Rattle.text.specs.Line.{LF, lineText}
 use Rattle.text.specs.Wrote.{Wrote}
 use Rattle.text.proofs.WroteLaws.{wrote-then}
 use Rattle.command.specs.Entry.{Entry}
-use Rattle.message.specs.Fields.{MessageType, term=, from=, to=, ownFields, fields, countIn, messageOf}
+use Rattle.message.specs.Fields.{
+  MessageType,
+  type=vote-request,
+  type=vote-yes,
+  type=vote-no,
+  type=append,
+  type=append-yes,
+  type=append-no,
+  term=,
+  from=,
+  to=,
+  ownFields,
+  fields,
+  countIn,
+  messageOf,
+}
 use Rattle.message.specs.Text.{type=, name, linesText, entriesText, text}
-use Rattle.message.specs.Answer.{typeIn, ownIn, openingOf, spanOf}
+use Rattle.message.specs.Answer.{typeIn, ownIn, openingOf}
+use Rattle.entries.specs.Span.{spanOf}
 use Rattle.rows.specs.Rows.{entryOf}
 use Rattle.rows.proofs.RowLaws.{rowsIn-length}
 use Rattle.message.specs.Rows.{rowEntries}
@@ -22,10 +38,10 @@ use Rattle.message.specs.Write.{countOf, messageWith, Puts}
 use Rattle.message.specs.declared.Body.{Body}
 use Rattle.message.specs.declared.Body.the-variants.{VoteRequest, VoteYes, VoteNo, Append, AppendYes, AppendNo}
 use Rattle.message.specs.declared.Fields.{Fields}
-use Rattle.message.specs.declared.Span.{Span}
-use Rattle.message.proofs.FieldsLaws.{typeOf-messageOf, entriesOf-messageOf, numbers-messageOf}
+use Rattle.entries.specs.declared.Span.{Span}
+use Rattle.message.proofs.FieldsLaws.{Slotted, typeOf-messageOf, entriesOf-messageOf, numbers-messageOf}
 use Rattle.message.proofs.ReadLaws.{text-most}
-use Rattle.message.proofs.RowsLaws.{room-first, room-next}
+use Rattle.entries.proofs.RowsLaws.{room-first, room-next}
 use Rattle.writer.specs.Parts.{twoLines, typeText, headText, ownText}
 
 -- ---- a text by another name
@@ -112,33 +128,41 @@ length-line n p = rw p (simp append-nil)
 
 -- ---- the whole text
 
--- A number for each of a type's own fields,
-own-many : (b : Body) → length (ownIn b) ≡ length (ownFields (typeIn b))
-unfolding ownFields
-own-many (VoteRequest last ballot) = refl
-own-many (VoteYes last ballot count) = refl
-own-many VoteNo = refl
-own-many (Append prev prevterm chosen count) = refl
-own-many (AppendYes end) = refl
-own-many (AppendNo n) = refl
+own-slotted : (term from to : ℕ) (b : Body) → Slotted (typeIn b) (term ∷ from ∷ to ∷ ownIn b)
+unfolding fields ownFields
+own-slotted term from to (VoteRequest last ballot) = refl
+own-slotted term from to (VoteYes last ballot count) = refl
+own-slotted term from to VoteNo = refl
+own-slotted term from to (Append prev prevterm chosen count) = refl
+own-slotted term from to (AppendYes end) = refl
+own-slotted term from to (AppendNo n) = refl
 
--- and for each of all.
-numbers-many : (f : Fields) → length (openingOf f .numbers) ≡ length (fields (openingOf f .type))
-unfolding fields
-numbers-many f = ap (λ (n : ℕ). suc (suc (suc n))) (own-many (f .body))
+-- The numbers of the fields stand in their slots, and no other is taken.
+numbers-slotted : (f : Fields) → Slotted (openingOf f .type) (openingOf f .numbers)
+numbers-slotted f = own-slotted (f .term .0) (f .from .0) (f .to .0) (f .body)
 
 -- The text of the message of a type, numbers and entries.
-text-of : (t : MessageType) (ns : List ℕ) (es : List Entry) → length ns ≡ length (fields t) → length es ≡ countIn t ns
+text-of : (t : MessageType) (ns : List ℕ) (es : List Entry) → Slotted t ns → length es ≡ countIn t ns
     → text (messageOf t ns es) ≡ type= ++ (name t ++ (LF ++ (linesText (fields t) ns ++ entriesText es)))
 unfolding text
 text-of t ns es n h = rw (typeOf-messageOf t ns es, numbers-messageOf t ns es n h, entriesOf-messageOf t ns es h)
 
+-- A type's own lines have nothing to do with term, from and to.
+own-lines : (t : MessageType) (term from to : ℕ) (own : List ℕ) → linesText (ownFields t) (term ∷ from ∷ to ∷ own) ≡ linesText (ownFields t) (0 ∷ 0 ∷ 0 ∷ own)
+unfolding ownFields linesText
+own-lines type=vote-request term from to own = refl
+own-lines type=vote-yes term from to own = refl
+own-lines type=vote-no term from to own = refl
+own-lines type=append term from to own = refl
+own-lines type=append-yes term from to own = refl
+own-lines type=append-no term from to own = refl
+
 -- The lines of all fields are those of the head and those of the type's own.
 lines-split : (t : MessageType) (term from to : ℕ) (own : List ℕ)
     → linesText (fields t) (term ∷ from ∷ to ∷ own)
-    ≡ linesText (term= ∷ from= ∷ to= ∷ []) (term ∷ from ∷ to ∷ []) ++ linesText (ownFields t) own
+    ≡ linesText (term= ∷ from= ∷ to= ∷ []) (term ∷ from ∷ to ∷ []) ++ linesText (ownFields t) (0 ∷ 0 ∷ 0 ∷ own)
 unfolding fields linesText
-lines-split t term from to own = simp append-assoc
+lines-split t term from to own = rw (← own-lines t term from to own) (simp append-assoc)
 
 -- What follows the lines before it: the entry lines, the type's own lines with them, and the head with both.
 abbrev entryLines : Fields → List ℕ → List ℕ
@@ -154,7 +178,7 @@ fromHead f rows = headText f ++ fromOwn f rows
 parts-text : (f : Fields) (rows : List ℕ) → text (messageWith f rows) ≡ typeText (f .body) ++ fromHead f rows
 unfolding messageWith countOf typeText headText ownText
 parts-text f rows =
-    text-of (openingOf f .type) (openingOf f .numbers) (rowEntries (countOf f) rows) (numbers-many f) (rowsIn-length entryOf (countOf f) rows)
+    text-of (openingOf f .type) (openingOf f .numbers) (rowEntries (countOf f) rows) (numbers-slotted f) (rowsIn-length entryOf (countOf f) rows)
     ∙ rw (lines-split (typeIn (f .body)) (f .term .0) (f .from .0) (f .to .0) (ownIn (f .body))) (simp append-assoc)
 
 -- The count of the span is the count of the fields.

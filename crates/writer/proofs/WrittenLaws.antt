@@ -16,7 +16,8 @@ use Rattle.kinds.specs.Sizes.{text-room}
 use Rattle.text.specs.Wrote.{Wrote}
 use Rattle.command.proofs.Tests.{by-test, both}
 use Rattle.message.specs.Legal.{legalMessage}
-use Rattle.message.specs.Answer.{fieldsOf, spanOf}
+use Rattle.message.specs.Answer.{fieldsOf}
+use Rattle.entries.specs.Span.{spanOf}
 use Rattle.rows.specs.Rows.{row-size, entryOf}
 use Rattle.rows.proofs.RowLaws.{rowsIn-length}
 use Rattle.message.specs.Rows.{rowEntries}

@@ -20,6 +20,6 @@ typeText b = type= ++ (name (typeIn b) ++ LF)
 unfoldable pub headText : Fields → List ℕ
 headText f = linesText (term= ∷ from= ∷ to= ∷ []) (f .term .0 ∷ f .from .0 ∷ f .to .0 ∷ [])
 
--- The lines of the type's own fields.
+-- The lines of the type's own fields, whose slots come behind three others.
 unfoldable pub ownText : Body → List ℕ
-ownText b = linesText (ownFields (typeIn b)) (ownIn b)
+ownText b = linesText (ownFields (typeIn b)) (0 ∷ 0 ∷ 0 ∷ ownIn b)

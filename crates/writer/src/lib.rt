@@ -180,7 +180,7 @@ pub fn put_message(out: &mut [u8], f: Fields, rows: &[u8]) -> usize
     let p = write_type(out, body);
     let q = write_head(out, p, f);
     let o = write_own(out, q, body);
-    message::write_rows(out, o, rows, message::span_of(f).count)
+    entries::write_rows(out, o, rows, entries::span_of(f).count)
 }
 
 // ---- whether a message is legal
@@ -245,7 +245,7 @@ fn is_append(
 {
     let t = term.number();
     let before = prevterm.number();
-    let entries = are_legal(rows, count, message::at_least_one(before), t);
+    let entries = are_legal(rows, count, entries::at_least_one(before), t);
     let end = wide(prev.number()) + wide(count);
     let both = (before == 0) == (prev.number() == 0);
     (end <= wide(LIMIT)) & (both & ((before <= t) & ((wide(chosen.number()) <= end) & entries)))
@@ -301,7 +301,7 @@ pub fn write_message(f: Fields, rows: &[u8], out: &mut [u8]) -> Write
     if out.len() < OUTPUT {
         return Write::Short;
     }
-    let count = message::span_of(f).count;
+    let count = entries::span_of(f).count;
     if rows.len() != (count as usize) * ROW {
         return Write::Illegal;
     }

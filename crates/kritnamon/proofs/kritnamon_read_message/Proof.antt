@@ -13,21 +13,21 @@ short c = tells-short _ _ (c .if1 .taken)
 
 -- The text is no legal message.
 refused : tie.Need-returns-2
-refused c = tells-refused _ _ (c .before .before .before .if1 .left) (sym (c .before .before .read-message .ensures) ∙ c .enum-told .given .1)
+refused c = tells-refused _ _ (c .before .before .before .if1 .left) (sym (c .before .before .read-message .ensures .answer) ∙ c .enum-told .given .1)
 
 -- Where the entry lines begin fits.
 small : tie.Need-mul-result
 small c =
     let at-fields = c .before .before .before .before .before in
     let at-read = at-fields .before .before in
-    fits-under _ _ 0x1_0000_0000_0000_0000 (omega (arith, entries-small _ _ _ (sym (at-read .read-message .ensures) ∙ at-fields .fields .given .1))) tt
+    fits-under _ _ 0x1_0000_0000_0000_0000 (omega (arith, entries-small _ _ _ (sym (at-read .read-message .ensures .answer) ∙ at-fields .fields .given .1))) tt
 
 -- The numbers are put.
 put : tie.Need-returns-3
 put c =
     let at-fields = c .before .before .before .before .before in
     let at-read = at-fields .before .before in
-    tells-message _ _ _ _ (at-read .before .if1 .left) (sym (at-read .read-message .ensures) ∙ at-fields .fields .given .1)
+    tells-message _ _ _ _ (at-read .before .if1 .left) (sym (at-read .read-message .ensures .answer) ∙ at-fields .fields .given .1)
     (c .before .before .put-fields .ensures)
 
 pub kritnamon-read-message-spec : {M : Type 1} → statement M

@@ -12,7 +12,7 @@ use Rattle.receive.proofs.receive_at.Tie as tie
 unread : tie.Need-returns
 unread c =
     let at-read-message = c .before .before in
-    unread-gives _ _ _ _ (none-read _ (sym (at-read-message .read-message .ensures) ∙ c .enum-told .given .1))
+    unread-gives _ _ _ _ (none-read _ (sym (at-read-message .read-message .ensures .answer) ∙ c .enum-told .given .1))
 
 -- The message is legal.
 may-be-received : tie.Need-receive-message-requires
@@ -20,7 +20,7 @@ may-be-received c κs =
     let at-fields = c .before .before .before in
     let at-read-message = at-fields .before .before in
     let start = at-read-message .before .before .before .before in
-    let stands = fields-stand _ _ _ (sym (at-read-message .read-message .ensures) ∙ at-fields .fields .given .1) in
+    let stands = fields-stand _ _ _ (sym (at-read-message .read-message .ensures .answer) ∙ at-fields .fields .given .1) in
     may-receive _ _ _ _ _ _ (start .pre .0) (start .pre .1) stands
 
 -- The bytes fit the upper half.
@@ -31,7 +31,7 @@ bytes-fit c =
     let at-fields = at-receive-message .before .before .before .before in
     let at-read-message = at-fields .before .before in
     let start = at-read-message .before .before .before .before in
-    let stands = fields-stand _ _ _ (sym (at-read-message .read-message .ensures) ∙ at-fields .fields .given .1) in
+    let stands = fields-stand _ _ _ (sym (at-read-message .read-message .ensures .answer) ∙ at-fields .fields .given .1) in
     fits-under _ _ 0x1_0000_0000_0000_0000
     (omega (arith, bytes-small _ _ _ _ _ _ (start .pre .0) (start .pre .1) stands (at-receive-message .receive-message .ensures))) tt
 
@@ -46,7 +46,7 @@ packed c =
     let at-fields = at-receive-message .before .before .before .before in
     let at-read-message = at-fields .before .before in
     let start = at-read-message .before .before .before .before in
-    let stands = fields-stand _ _ _ (sym (at-read-message .read-message .ensures) ∙ at-fields .fields .given .1) in
+    let stands = fields-stand _ _ _ (sym (at-read-message .read-message .ensures .answer) ∙ at-fields .fields .given .1) in
     read-gives _ _ _ _ _ _ (start .pre .0) (start .pre .1) stands (at-receive-message .receive-message .ensures)
 
 pub receive-at-spec : {M : Type 1} → statement M

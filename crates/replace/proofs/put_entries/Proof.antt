@@ -9,7 +9,7 @@ use borrow.Author.Needs.{needs}
 use Rattle.message.specs.Walk.{entriesFrom, Lie}
 use Rattle.rows.specs.Rows.{row-size, bytesOf}
 use Rattle.state.specs.Image.{logRow}
-use Rattle.message.proofs.WalkLaws.{lie-on, lie-next}
+use Rattle.entries.proofs.WalkLaws.{lie-on, lie-next}
 use Rattle.replace.proofs.EntriesLaws.{put-none, put-next}
 use Rattle.replace.proofs.put_entries.Statement.{statement}
 use Rattle.replace.proofs.put_entries.Tie as tie

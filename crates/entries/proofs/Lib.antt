@@ -1,0 +1,5 @@
+pub mod CaseLaws
+pub mod EntryLaws
+pub mod SpanLaws
+pub mod RowsLaws
+pub mod WalkLaws

@@ -1,0 +1,4 @@
+pub mod CaseLaws
+pub mod TypeLaws
+pub mod LinesLaws
+pub mod OpeningLaws

@@ -1,0 +1,73 @@
+-- `lines::lines_in` meets its contract. The loop's invariant: so many lines were read, and what is read from the first on is what is read
+-- from here on. The measure is how many are left. Assumes nothing.
+use Prim.Native.Nat.{_-_}
+use native.Mathlib.Omega.{arith}
+use mathlib.Core.Path.{_≡_, refl}
+use borrow.Author.Needs.{needs}
+use lib.ListN.{length, length-set}
+use Rattle.lines.proofs.LinesLaws.{Reading, reading-none, reading-stuck, reading-again, reading-done}
+use Rattle.fields.specs.Table.{fieldsMany}
+use Rattle.lines.proofs.lines_in.Statement.{statement}
+use Rattle.lines.proofs.lines_in.Tie as tie
+
+abbrev Inv-loop : tie.InvT-loop
+Inv-loop s at kind numbers₀ next₀ read₀ field₀ most numbers next read field =
+    (most ≡ fieldsMany kind) × (length numbers ≡ 7) × Reading s at kind numbers next read field
+
+abbrev μ-loop : tie.MeasureT-loop
+μ-loop s at kind numbers₀ next₀ read₀ field₀ most numbers next read field = most - read
+
+-- At first no line was read.
+begins : tie.Need-loop-holds Inv-loop μ-loop
+begins c =
+    let args = c .before .before .args in
+    (c .fields-many .ensures, refl, reading-none (args .s .now) (args .at) (args .kind) (search needs))
+
+-- The next line is none.
+stuck : tie.Need-returns Inv-loop μ-loop
+stuck c =
+    let at-field-in = c .before .before in
+    let at-range-of = at-field-in .before in
+    let at-loop = at-range-of .before .before .before in
+    reading-stuck (at-loop .loop .inv .2) (omega arith) (at-range-of .range-of .ensures) (at-field-in .field-in .result) (at-field-in .field-in .ensures)
+    (c .enum-told .given .1)
+
+-- It was read.
+again : tie.Need-loop-again Inv-loop μ-loop
+again c =
+    let at-slot-of = c .before in
+    let at-value = at-slot-of .before .before in
+    let at-field-in = at-value .before .before in
+    let at-range-of = at-field-in .before in
+    let at-loop = at-range-of .before .before .before in (
+      at-loop .loop .inv .0,
+      simp length-set (at-loop .loop .inv .1),
+      reading-again (at-loop .loop .inv .2) (omega arith) (at-range-of .range-of .ensures) (at-field-in .field-in .result) (at-field-in .field-in .ensures)
+          (at-value .value .given .1) (at-slot-of .slot-of .ensures .0) (c .after .ensures),
+    )
+
+-- No line is left.
+done : tie.Need-returns-2 Inv-loop μ-loop
+done c = reading-done (c .before .loop .inv .2) (λ m. omega arith)
+
+pub lines-in-spec : {M : Type 1} → statement M
+lines-in-spec =
+    tie.close
+    (tie.spec
+    Inv-loop
+    μ-loop
+    (λ c κs. search needs)
+    begins
+    (λ c κs. search needs)
+    (λ c κs. search needs)
+    (λ c. search needs)
+    (λ c. search needs)
+    stuck
+    (λ c κs. search needs)
+    (λ c. search needs)
+    (λ c. search needs)
+    (λ c. search needs)
+    (λ c κs. search needs)
+    (λ c. search needs)
+    again
+    done)

@@ -1,0 +1,178 @@
+// The lines of a message before its entries, read from a lent text: one loop reads those of every type, by the table of fields.
+ghost use mathlib.Core.Path.{_≡_};
+ghost use Prim.Native.Nat.{_≤_};
+ghost use lib.ListN.{length, drop};
+ghost use Rattle.message.specs.Text.{key, typeAmong, types};
+ghost use Rattle.message.specs.Opening.{typeLine, opening};
+ghost use Rattle.fields.specs.Table.{fieldIs};
+ghost use Rattle.lines.specs.Found.{FoundKind, FoundFields, FoundLines};
+ghost use Rattle.text.specs.Found.{FoundNext, FoundNumber};
+ghost use Rattle.text.specs.Range.{lineIn};
+ghost use Rattle.text.specs.Reader.{literal};
+use fields::Field;
+use fields::Kind;
+use message::Fields;
+use text::Next;
+use text::Number;
+
+// The byte that ends a line.
+const LF: u8 = 10;
+
+// A type, and the place past its line.
+pub enum KindAt {
+    Is { kind: Kind, next: usize },
+    Bad,
+}
+
+// The numbers of the lines that were read, each in the slot of its field; how many lines; and the place past them. Where there are fewer than the
+// type has, the next line begins there, and it is none.
+pub struct Lines {
+    pub numbers: [u32; 7],
+    pub read: usize,
+    pub next: usize,
+}
+
+// The fields, and the place past their lines.
+pub enum FieldsAt {
+    Are { fields: Fields, next: usize },
+    Bad,
+}
+
+// ---- the line of the type
+
+// The type whose name stands here.
+fn kind_in(s: &[u8], at: usize) -> KindAt
+    requires { ⌜ at ≤ length (now s) ⌝ }
+    ensures { λ r. ⌜ FoundKind (now (s .entry)) (typeAmong types (drop at (now (s .entry)))) r ⌝ }
+{
+    if let Next::At(next) = text::stands(s, at, b"vote-request\n") {
+        return KindAt::Is {
+            kind: Kind::VoteRequest,
+            next,
+        };
+    }
+    if let Next::At(next) = text::stands(s, at, b"vote-yes\n") {
+        return KindAt::Is {
+            kind: Kind::VoteYes,
+            next,
+        };
+    }
+    if let Next::At(next) = text::stands(s, at, b"vote-no\n") {
+        return KindAt::Is {
+            kind: Kind::VoteNo,
+            next,
+        };
+    }
+    if let Next::At(next) = text::stands(s, at, b"append\n") {
+        return KindAt::Is {
+            kind: Kind::Append,
+            next,
+        };
+    }
+    if let Next::At(next) = text::stands(s, at, b"append-yes\n") {
+        return KindAt::Is {
+            kind: Kind::AppendYes,
+            next,
+        };
+    }
+    if let Next::At(next) = text::stands(s, at, b"append-no\n") {
+        return KindAt::Is {
+            kind: Kind::AppendNo,
+            next,
+        };
+    }
+    KindAt::Bad
+}
+
+// The line `type`.
+fn type_in(s: &[u8]) -> KindAt
+    ensures { λ r. ⌜ FoundKind (now (s .entry)) (typeLine (now (s .entry))) r ⌝ }
+{
+    let Next::At(at) = text::stands(s, 0, b"type=") else {
+        return KindAt::Bad;
+    };
+    kind_in(s, at)
+}
+
+// ---- the lines of fields
+
+// Whether the key of a field stands here.
+fn key_in(s: &[u8], at: usize, field: Field) -> Next
+    requires { ⌜ at ≤ length (now s) ⌝ }
+    ensures { λ r. ⌜ FoundNext (now (s .entry)) (literal (key (fieldIs field)) (drop at (now (s .entry)))) r ⌝ }
+{
+    match field {
+        Field::Term => text::stands(s, at, b"term="),
+        Field::From => text::stands(s, at, b"from="),
+        Field::To => text::stands(s, at, b"to="),
+        Field::Last => text::stands(s, at, b"last="),
+        Field::Ballot => text::stands(s, at, b"ballot="),
+        Field::Count => text::stands(s, at, b"count="),
+        Field::Prev => text::stands(s, at, b"prev="),
+        Field::Prevterm => text::stands(s, at, b"prevterm="),
+        Field::Chosen => text::stands(s, at, b"chosen="),
+        Field::End => text::stands(s, at, b"end="),
+        Field::Length => text::stands(s, at, b"length="),
+    }
+}
+
+// The line of a field, its number in lo..hi.
+fn field_in(s: &[u8], at: usize, field: Field, lo: u32, hi: u32) -> Number
+    requires { ⌜ at ≤ length (now s) ⌝ }
+    ensures { λ r. ⌜ FoundNumber (now (s .entry)) (lineIn (key (fieldIs field)) lo hi (drop at (now (s .entry)))) r ⌝ }
+{
+    let Next::At(p) = key_in(s, at, field) else {
+        return Number::Bad;
+    };
+    text::number_in(s, p, lo, hi, LF)
+}
+
+// The lines of a type's fields, in order, up to the first that is none.
+fn lines_in(s: &[u8], at: usize, kind: Kind) -> Lines
+    requires { ⌜ at ≤ length (now s) ⌝ }
+    ensures { λ r. ⌜ FoundLines (now (s .entry)) at kind r ⌝ }
+{
+    let mut numbers: [u32; 7] = [0; 7];
+    let mut next = at;
+    let mut read: usize = 0;
+    let mut field = Field::Term;
+    let most = fields::fields_many(kind);
+    while read < most {
+        let r = fields::range_of(kind, field, &numbers);
+        let Number::Is { value, next: p } = field_in(s, next, field, r.lo, r.hi) else {
+            return Lines {
+                numbers,
+                read,
+                next,
+            };
+        };
+        let slot = fields::slot_of(field);
+        numbers[slot] = value;
+        next = p;
+        read += 1;
+        field = fields::after(kind, field);
+    }
+    Lines {
+        numbers,
+        read,
+        next,
+    }
+}
+
+// All lines before the entries.
+pub fn opening_in(s: &[u8]) -> FieldsAt
+    ensures { λ r. ⌜ FoundFields (now (s .entry)) (opening (now (s .entry))) r ⌝ }
+{
+    let KindAt::Is { kind, next: p } = type_in(s) else {
+        return FieldsAt::Bad;
+    };
+    let lines = lines_in(s, p, kind);
+    if lines.read != fields::fields_many(kind) {
+        return FieldsAt::Bad;
+    }
+    let fields = fields::fields_of(kind, &lines.numbers);
+    FieldsAt::Are {
+        fields,
+        next: lines.next,
+    }
+}

@@ -1,0 +1,181 @@
+-- The reader's answer: one law for each answer of the code. Assumes nothing.
+use Prim.Native.Nat.{_-_, _<_, _≤_, ℕ}
+use borrow.Author.Tests.{le-leb, lt-leb}
+use denote.Ref.{RefT}
+use lib.ListN.{drop, drop-of-length-le, length, length-drop}
+use lib.Seq.{drop-cons}
+use mathlib.Core.Bool.{Bool, false, true}
+use mathlib.Core.List.{List, [], _∷_, append-nil}
+use mathlib.Core.Option.{Option, none, some}
+use mathlib.Core.Path.{_∙_, _≡_, ap, ap₂, refl, subst, sym}
+use native.Mathlib.Omega.{arith}
+use Rattle.command.specs.Entry.{Entry, legalEntries}
+use Rattle.kinds.specs.Sizes.{text-room}
+use Rattle.entries.proofs.CaseLaws.{next-at, next-bad}
+use Rattle.lines.proofs.CaseLaws.{fields-are, fields-bad}
+use Rattle.message.proofs.FieldsLaws.{entriesOf-messageOf}
+use Rattle.reader.proofs.WholeLaws.{entriesAfter, messageIn-opening}
+use Rattle.message.proofs.RangeLaws.{entriesIn-is, kept, messageIn-whole}
+use Rattle.message.proofs.TextLaws.{entries-sound}
+use Rattle.message.specs.Answer.{openingOf}
+use Rattle.message.proofs.AnswerLaws.{fields-back}
+use Rattle.entries.specs.Span.{spanOf}
+use Rattle.reader.specs.Answer.{outcomeOf, readAs, readOutcome, Reads}
+use Rattle.message.specs.Fields.{messageOf}
+use Rattle.lines.specs.Found.{FoundFields}
+use Rattle.message.specs.Message.{entriesOf}
+use Rattle.message.specs.Opening.{opening}
+use Rattle.reader.specs.Part.{IsPart}
+use Rattle.message.specs.Range.{entriesIn, messageIn}
+use Rattle.message.specs.Text.{entries, entriesText, partFrom, partTo, read}
+use Rattle.message.specs.Walk.{past}
+use Rattle.text.proofs.ReaderLaws.{Went, got-rest, lost-never, onward-got, onward-lost, onward-sound, whole-got}
+use Rattle.text.specs.Found.{FoundNext}
+use Rattle.text.specs.Reader.{Got, got, lost, onward, pure, whole}
+use Rattle.message.specs.declared.Fields.{Fields}
+use Rattle.lines.specs.declared.FieldsAt.{FieldsAt}
+use Rattle.entries.specs.declared.Span.{Span}
+use Rattle.text.specs.declared.Next.{Next}
+use Rattle.text.specs.declared.Next.the-variants.{At, Bad as Next·Bad}
+use Rattle.lines.specs.declared.FieldsAt.the-variants.{Are as FieldsAt·Are, Bad as FieldsAt·Bad}
+use Rattle.reader.specs.declared.Read.{Read}
+use Rattle.reader.specs.declared.Read.the-variants.{Message as Read·Message, Refused}
+use Rattle.message.specs.Message.{Message as Said}
+
+-- ---- the entries of what was read
+
+-- Entries that are read by ranges are entries.
+entries-plain : (n low high : ℕ) (s : List ℕ) {es : List Entry} {rest : List ℕ} → entriesIn n low high s ≡ got es rest → entries n s ≡ got es rest
+entries-plain n low high s e =
+    let w = onward-sound (sym (entriesIn-is n low high s) ∙ e) in
+    w .first ∙ kept (legalEntries low high (w .value)) (w .value) (w .left) (w .next)
+
+-- ---- the answer
+
+as-outcome : (s : List ℕ) (o : Option Said) → outcomeOf (readAs s o) ≡ readOutcome o
+unfolding readAs
+as-outcome s none = refl
+as-outcome s (some m) = refl
+
+-- An answer has its outcome.
+pub told : (s : List ℕ) (r : Read) → r ≡ readAs s (read s) → Reads s r
+told s r e = record { answer = e; outcome = ap outcomeOf e ∙ as-outcome s (read s) }
+
+-- A text that is not too long is read by ranges.
+read-ranged : (s : List ℕ) → length s ≤ text-room → read s ≡ whole (messageIn s)
+unfolding read
+read-ranged s h = rw (le-leb (length s) text-room h) (messageIn-whole s)
+
+-- A longer one is refused.
+pub read-long : (s : List ℕ) → 16_384 < length s → Refused ≡ readAs s (read s)
+unfolding read readAs text-room
+read-long s h = rw (lt-leb (length s) 16_384 h)
+
+module _ (s : List ℕ) (fits : length s ≤ 16_384) (r : FieldsAt) (found : FoundFields s (opening s) r) where
+  ranged : read s ≡ whole (messageIn s)
+  unfolding text-room
+  ranged = read-ranged s fits
+
+  refused : messageIn s ≡ lost → Refused ≡ readAs s (read s)
+  unfolding readAs whole
+  refused e = rw (ranged, e)
+
+  -- The opening is none.
+  pub read-no-opening : r ≡ FieldsAt·Bad → Refused ≡ readAs s (read s)
+  read-no-opening e = refused (messageIn-opening s ∙ onward-lost _ (fields-bad s _ r found e))
+
+  module _ (f : Fields) (n : ℕ) (e : r ≡ FieldsAt·Are f n) where
+    -- It ends inside the text.
+    pub read-inside : n ≤ length s
+    read-inside = fields-are s _ r found f n e .inside
+
+    from-opening : messageIn s ≡ onward (entriesAfter (openingOf f) (drop n s)) (λ es. pure (messageOf (openingOf f .type) (openingOf f .numbers) es))
+    from-opening = messageIn-opening s ∙ onward-got _ (fields-are s _ r found f n e .read)
+
+    module _ (sp : Span) (same : sp ≡ spanOf (openingOf f)) (q : Next) (found2 : FoundNext s (past (entriesIn (sp .count) (sp .low) (sp .high) (drop n s))) q) where
+      after : FoundNext s (past (entriesAfter (openingOf f) (drop n s))) q
+      unfolding entriesAfter
+      after = subst (λ (x : Span). FoundNext s (past (entriesIn (x .count) (x .low) (x .high) (drop n s))) q) same found2
+
+      -- The entries are none.
+      pub read-no-entries : q ≡ Next·Bad → Refused ≡ readAs s (read s)
+      unfolding past
+      read-no-entries b = go (entriesAfter (openingOf f) (drop n s)) refl
+        where
+          go : (g : Got (List Entry)) → entriesAfter (openingOf f) (drop n s) ≡ g → Refused ≡ readAs s (read s)
+          go (got es rest) h = absurd (lost-never (sym (next-bad s _ q after b) ∙ onward-got _ h))
+          go lost h = refused (from-opening ∙ onward-lost _ h)
+
+      module _ (end : ℕ) (z : q ≡ At end) where
+        went : Went {B = Unit {0}} (entriesAfter (openingOf f) (drop n s)) (λ es. pure tt) tt (drop end s)
+        unfolding past
+        went = onward-sound (next-at s _ q after end z .read)
+
+        entered : entriesAfter (openingOf f) (drop n s) ≡ got (went .value) (drop end s)
+        entered = went .first ∙ ap (got (went .value)) (got-rest (went .next))
+
+        abbrev said : Said
+        said = messageOf (openingOf f .type) (openingOf f .numbers) (went .value)
+
+        message-is : messageIn s ≡ got said (drop end s)
+        message-is = from-opening ∙ onward-got _ entered
+
+        -- More text follows.
+        pub read-more : (end ≡ length s → ⊥) → Refused ≡ readAs s (read s)
+        unfolding readAs whole
+        read-more other =
+            let w : end ≤ length s = next-at s _ q after end z .inside in
+            rw (ranged, message-is, drop-cons s end 0 (omega (arith, other)))
+
+        -- The text ends there.
+        pub read-all : end ≡ length s → Read·Message f n ≡ readAs s (read s)
+        unfolding readAs partFrom entriesAfter spanOf
+        read-all ends =
+            let o = openingOf f in
+            let es = went .value in
+            let none-left : drop end s ≡ [] = drop-of-length-le s {i = end} (omega arith) in
+            let g : entriesIn (spanOf o .count) (spanOf o .low) (spanOf o .high) (drop n s) ≡ got es [] = entered ∙ ap (got es) none-left in
+            let are = entries-sound (spanOf o .count) (drop n s) (entries-plain (spanOf o .count) (spanOf o .low) (spanOf o .high) (drop n s) g) in
+            let is : read s ≡ some said = ranged ∙ whole-got (message-is ∙ ap (got said) none-left) in
+            let held : entriesOf (said .body) ≡ es = entriesOf-messageOf (o .type) (o .numbers) es (are .count) in
+            let l : length (drop n s) ≡ length (entriesText es) = ap length (are .split) ∙ ap length (append-nil (entriesText es)) in
+            let p : n ≡ length s - length (entriesText (entriesOf (said .body))) = rw held (omega (arith, l, length-drop n s, read-inside)) in
+            ap₂ (λ (x : Fields) (m : ℕ). Read·Message x m) (sym (fields-back f es (are .count))) p ∙ ap (readAs s) (sym is)
+
+-- ---- the part that holds the entry lines
+
+module _ (s : List ℕ) (o : Option Said) (r : Read) (e : r ≡ readAs s o) where
+  -- Of a message it goes from where its entry lines begin to the end of the text.
+  pub part-message : (f : Fields) (n : ℕ) → r ≡ Read·Message f n → (n ≡ partFrom s o) × (length s ≡ partTo s o)
+  unfolding readAs partFrom partTo
+  part-message f n h = go o (sym h ∙ e)
+    where
+      go : (x : Option Said) → Read·Message f n ≡ readAs s x → (n ≡ partFrom s x) × (length s ≡ partTo s x)
+      go none k = absurd (let z : _≡_ {A = ℕ} 0 1 = cc in omega arith)
+      go (some m) k = (cc, refl)
+
+  -- It lies in the text.
+  pub part-within : (f : Fields) (n : ℕ) → r ≡ Read·Message f n → n ≤ length s
+  unfolding partFrom
+  part-within f n h = go o (part-message f n h .0)
+    where
+      go : (x : Option Said) → n ≡ partFrom s x → n ≤ length s
+      go none k = omega arith
+      go (some m) k = omega arith
+
+  -- A refusal has the empty part at the start.
+  pub part-refused : r ≡ Refused → (0 ≡ partFrom s o) × (0 ≡ partTo s o)
+  unfolding readAs partFrom partTo
+  part-refused h = go o (sym h ∙ e)
+    where
+      go : (x : Option Said) → Refused ≡ readAs s x → (0 ≡ partFrom s x) × (0 ≡ partTo s x)
+      go none k = (refl, refl)
+      go (some m) k = absurd (let z : _≡_ {A = ℕ} 0 1 = cc in omega arith)
+
+-- A part by other names of its ends.
+pub part-same : (s r : RefT (List ℕ)) (a e b f : ℕ) → IsPart s a e r → (a ≡ b) × (e ≡ f) → IsPart s b f r
+part-same s r a e b f p (x, y) = subst (λ (k : ℕ). IsPart s b k r) y (subst (λ (k : ℕ). IsPart s k e r) x p)
+
+-- Of one text no two parts are both right: they are the same bytes at the same place.
+pub part-one : (s r q : RefT (List ℕ)) (a e : ℕ) → IsPart s a e r → IsPart s a e q → (r .now ≡ q .now) × (r .ptr .0 ≡ q .ptr .0) × (r .ptr .1 ≡ q .ptr .1)
+part-one s r q a e x y = (x .bytes ∙ sym (y .bytes), x .block ∙ sym (y .block), x .place ∙ sym (y .place))

@@ -1,0 +1,42 @@
+-- `reader::entry_lines` meets its contract: the part that the reader's answer names. Assumes nothing.
+use borrow.Author.Needs.{needs}
+use Rattle.reader.proofs.AnswerLaws.{part-message, part-refused, part-same, part-within}
+use Rattle.message.specs.Text.{read}
+use Rattle.reader.proofs.entry_lines.Statement.{statement}
+use Rattle.reader.proofs.entry_lines.Tie as tie
+
+-- A refusal.
+at-start : tie.Need-returns
+at-start c =
+    let at-enum-told = c .before in
+    let at-read-message = at-enum-told .before .before in
+    let start = at-read-message .before .before in
+    part-same (start .args .s) (c .part .result) 0 0 _ _ (c .part .ensures) (part-refused (start .args .s .now) (read (start .args .s .now)) (at-read-message .read-message .result) (at-read-message .read-message .ensures .answer) (at-enum-told .enum-told .given .1))
+
+-- The entry lines begin in the text.
+within : tie.Need-part-requires-2
+within c κs =
+    let at-entries = c .before in
+    let at-read-message = at-entries .before .before in
+    let start = at-read-message .before .before in
+    (part-within (start .args .s .now) (read (start .args .s .now)) (at-read-message .read-message .result) (at-read-message .read-message .ensures .answer) _ _ (at-entries .entries .given .1), search needs)
+
+-- A message.
+entry-part : tie.Need-returns-2
+entry-part c =
+    let at-entries = c .before .before in
+    let at-read-message = at-entries .before .before in
+    let start = at-read-message .before .before in
+    part-same (start .args .s) (c .part2 .result) _ _ _ _ (c .part2 .ensures) (part-message (start .args .s .now) (read (start .args .s .now)) (at-read-message .read-message .result) (at-read-message .read-message .ensures .answer) _ _ (at-entries .entries .given .1))
+
+pub entry-lines-spec : {M : Type 1} → statement M
+entry-lines-spec =
+    tie.close
+    (tie.spec
+    (λ c κs. search needs)
+    (λ c. search needs)
+    (λ c. search needs)
+    (λ c κs. search needs)
+    at-start
+    within
+    entry-part)
