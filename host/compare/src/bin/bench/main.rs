@@ -1,6 +1,7 @@
 //! The CPU time of the proved library beside the independent program's, and the library's size and stack, as the tables of docs/BENCHMARKS.md.
 
 mod archive;
+mod checking;
 mod cpu;
 mod night;
 mod reading;
@@ -12,6 +13,7 @@ mod writing;
 fn main() {
     reading::print();
     writing::print();
+    checking::print();
     steps::print();
     night::print();
     archive::print();
