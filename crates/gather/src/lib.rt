@@ -17,7 +17,7 @@ use kinds::Place;
 use kinds::Term;
 use rows::Words;
 use state::Head;
-use step::Group;
+use step::Caller;
 
 // The bytes of a row.
 const ROW: usize = 20;
@@ -110,7 +110,7 @@ fn add_voter(h: Head, from: Hub, count: u32) -> Head
 }
 
 // With a majority the hub leads, and the gathered entries join its log with the present term. Otherwise it stands on, with this head.
-fn count_votes(g: Group, h: Head, state: &mut [u8])
+fn count_votes(g: Caller, h: Head, state: &mut [u8])
     requires { ⌜ Counts (whoIn g) h (now state) ⌝ }
     ensures { λ _. ⌜ now (state .exit) ≡ countedInto (whoIn g) h (now (state .entry)) ⌝ }
 {
@@ -128,7 +128,7 @@ fn count_votes(g: Group, h: Head, state: &mut [u8])
 
 // vote-yes at a candidate, from a new voter: gathered and counted. Otherwise nothing.
 pub fn hear_yes(
-    g: Group,
+    g: Caller,
     state: &mut [u8],
     from: Hub,
     ballot: Term,

@@ -21,7 +21,7 @@ use kinds::Term;
 use message::Body;
 use message::Fields;
 use reader::Read;
-use step::Group;
+use step::Caller;
 use writer::Write;
 
 // The events that have a function of their own; any other that passes the first tests is a message received.
@@ -282,7 +282,7 @@ pub extern "C" fn kritnamon_reported(state: &[u8], place: u32, out: &mut [u8]) -
 // ---- the step
 
 // The event, once the tests before every event are passed.
-fn act(g: Group, event: u32, a: u32, b: u32, state: &mut [u8], input: &[u8], out: &mut [u8]) -> u64
+fn act(g: Caller, event: u32, a: u32, b: u32, state: &mut [u8], input: &[u8], out: &mut [u8]) -> u64
     requires { ⌜ gate (whoIn g) event (now state) (now out) ≡ 0 ⌝ }
     ensures { λ r. ⌜ Takes (stepOf (call (g .size) (g .own .0) event a b (now (state .entry)) (now (input .entry)) (now (out .entry)))) r (now (state .exit)) (now (out .exit)) ⌝ }
 {
@@ -318,7 +318,7 @@ pub extern "C" fn kritnamon_step(
 ) -> u64
     ensures { λ r. ⌜ Takes (stepOf (call n own event a b (now (state .entry)) (now (input .entry)) (now (out .entry)))) r (now (state .exit)) (now (out .exit)) ⌝ }
 {
-    let g = Group {
+    let g = Caller {
         size: n,
         own: Hub::of(own),
     };

@@ -22,7 +22,7 @@ use message::Body;
 use message::Fields;
 use reader::Read;
 use state::Head;
-use step::Group;
+use step::Caller;
 
 // The roles.
 const CANDIDATE: u8 = 1;
@@ -60,7 +60,7 @@ pub struct Told {
 // ---- the tests of a message
 
 // From above N or own; to neither own nor 0.
-fn is_misaddressed(g: Group, f: Fields) -> bool
+fn is_misaddressed(g: Caller, f: Fields) -> bool
     ensures { λ r. ⌜ ((s : List ℕ) → r ≡ isMisaddressed (whoIn g) (messageIn f s)) ⌝ }
 {
     let from = f.from;
@@ -128,7 +128,7 @@ fn is_contradicting(h: Head, body: Body) -> bool
 // ---- a stale message
 
 // vote-no for a vote-request and append-no for an append, with own term; nothing for the others.
-fn reply_stale(g: Group, state: &[u8], f: Fields, out: &mut [u8]) -> usize
+fn reply_stale(g: Caller, state: &[u8], f: Fields, out: &mut [u8]) -> usize
     requires { ⌜ Answering (whoIn g) (now state) (f .from .0) (now out) ⌝ }
     ensures { λ r. ⌜ ((s : List ℕ) → Replied (staleReply (whoIn g) (stateIn (now (state .entry))) (f .from .0) (bodyIn (f .body) s)) (now (out .entry)) r (now (out .exit))) ⌝ }
 {
@@ -165,7 +165,14 @@ fn silently(acted: bool) -> Did
 }
 
 // The answer to an append: append-yes with its end if it fitted, append-no with own length if not.
-fn answer_append(g: Group, state: &[u8], to: Hub, fitted: bool, end: Place, out: &mut [u8]) -> usize
+fn answer_append(
+    g: Caller,
+    state: &[u8],
+    to: Hub,
+    fitted: bool,
+    end: Place,
+    out: &mut [u8],
+) -> usize
     requires { ⌜ Answering (whoIn g) (now state) (to .0) (now out) × (end .0 ≤ limit) ⌝ }
     ensures { λ r. ⌜ Said (says (whoIn g) (stateIn (now (state .entry))) (to .0) (cond fitted (append-yes (end .0)) (append-no (len (stateIn (now (state .entry))))))) (now (out .entry)) r (now (out .exit)) ⌝ }
 {
@@ -176,7 +183,7 @@ fn answer_append(g: Group, state: &[u8], to: Hub, fitted: bool, end: Place, out:
 }
 
 // The rule for a message of the hub's term that does not contradict.
-fn obey(g: Group, state: &mut [u8], f: Fields, text: &[u8], at: usize, out: &mut [u8]) -> Did
+fn obey(g: Caller, state: &mut [u8], f: Fields, text: &[u8], at: usize, out: &mut [u8]) -> Did
     requires { ⌜ Obeys (whoIn g) (now state) f (drop at (now text)) (now out) ⌝ }
     ensures { λ r. ⌜ Obeyed (rule (whoIn g) (stateIn (now (state .entry))) (f .from .0) (bodyIn (f .body) (drop at (now (text .entry))))) (now (state .entry)) (now (out .entry)) r (now (state .exit)) (now (out .exit)) ⌝ }
 {
@@ -230,7 +237,7 @@ fn told_of(did: Did, idle: u32) -> Told
 // A message that is not stale. One with a higher term first makes the hub a follower of that term; outcome 0 whatever follows. One of own term:
 // 7 if it contradicts, 13 if the rules do nothing with it.
 fn receive_fresh(
-    g: Group,
+    g: Caller,
     h: Head,
     state: &mut [u8],
     f: Fields,
@@ -257,7 +264,7 @@ fn receive_fresh(
 
 // A legal message whose entry lines begin at a place of the text.
 fn receive_message(
-    g: Group,
+    g: Caller,
     state: &mut [u8],
     f: Fields,
     text: &[u8],
@@ -284,7 +291,7 @@ fn receive_message(
 }
 
 // Receive: the outcome in the lower half of what is returned, the bytes written in its upper half. A text that is no legal message is refused with 4.
-pub fn receive_at(g: Group, state: &mut [u8], input: &[u8], out: &mut [u8]) -> u64
+pub fn receive_at(g: Caller, state: &mut [u8], input: &[u8], out: &mut [u8]) -> u64
     requires { ⌜ Ready (whoIn g) (now state) × (text-room ≤ length (now out)) ⌝ }
     ensures { λ r. ⌜ Gives (heard (whoIn g) (stateIn (now (state .entry))) (read (now (input .entry)))) (now (state .entry)) (now (out .entry)) r (now (state .exit)) (now (out .exit)) ⌝ }
 {

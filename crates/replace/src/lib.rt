@@ -15,7 +15,7 @@ use kinds::Place;
 use kinds::Term;
 use rows::Words;
 use state::Head;
-use step::Group;
+use step::Caller;
 
 // The bytes of a row of a state's table.
 const ROW: usize = 20;
@@ -66,7 +66,7 @@ fn put_entries(state: &mut [u8], row: usize, count: u32, text: &[u8], at: usize)
 // ---- the rule
 
 // A candidate becomes a follower, its lost parts cleared; a follower stays as it is. The head that the state has then.
-fn follow_in(g: Group, state: &mut [u8]) -> Head
+fn follow_in(g: Caller, state: &mut [u8]) -> Head
     requires { ⌜ Ready (whoIn g) (now state) ⌝ }
     ensures { λ r. ⌜ Followed (whoIn g) (now (state .entry)) r (now (state .exit)) ⌝ }
 {
@@ -78,7 +78,7 @@ fn follow_in(g: Group, state: &mut [u8]) -> Head
 // append at a follower of its term: whether it fits. If it fits: where ballot = term and prev+count ≤ length the log stays; otherwise entries after prev
 // are replaced by the message's. Ballot = term; chosen = the greater of own and the message's.
 fn take_in(
-    g: Group,
+    g: Caller,
     h: Head,
     state: &mut [u8],
     prev: Place,
@@ -107,7 +107,7 @@ fn take_in(
 
 // append at own term: whether it fits. A candidate becomes follower, its lost parts cleared; if the append fits, its entries are taken.
 pub fn take_append(
-    g: Group,
+    g: Caller,
     state: &mut [u8],
     prev: Place,
     prevterm: Term,

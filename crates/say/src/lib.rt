@@ -21,7 +21,7 @@ use kinds::Term;
 use message::Body;
 use message::Fields;
 use state::Head;
-use step::Group;
+use step::Caller;
 
 // The role that starts no election and alone sends.
 const LEADER: u8 = 2;
@@ -41,7 +41,7 @@ const UPPER: u64 = 4_294_967_296;
 
 // Writes a message of this hub, with its term and itself as from. The entries that the body counts are those of its log after a place, lent where they lie.
 fn speak(
-    g: Group,
+    g: Caller,
     h: Head,
     state: &[u8],
     to: Hub,
@@ -82,7 +82,7 @@ fn entries_after(h: Head, p: Place) -> u32
 // ---- start
 
 // Asks all hubs for their votes: last is its length, with its ballot.
-fn ask(g: Group, h: Head, state: &[u8], out: &mut [u8]) -> usize
+fn ask(g: Caller, h: Head, state: &[u8], out: &mut [u8]) -> usize
     requires { ⌜ Asking (whoIn g) h (now state) (now out) ⌝ }
     ensures { λ r. ⌜ Said (asks (whoIn g) (stateIn (now (state .entry)))) (now (out .entry)) r (now (out .exit)) ⌝ }
 {
@@ -94,7 +94,7 @@ fn ask(g: Group, h: Head, state: &[u8], out: &mut [u8]) -> usize
 
 // Start, at a follower or a candidate: a candidate of the next term, and a vote-request to all. A refusal (8: a leader; 9: the last term) leaves
 // every byte.
-pub fn start_at(g: Group, state: &mut [u8], out: &mut [u8]) -> u64
+pub fn start_at(g: Caller, state: &mut [u8], out: &mut [u8]) -> u64
     requires { ⌜ Ready (whoIn g) (now state) × (text-room ≤ length (now out)) ⌝ }
     ensures { λ r. ⌜ Gives (start (whoIn g) (stateIn (now (state .entry)))) (now (state .entry)) (now (out .entry)) r (now (state .exit)) (now (out .exit)) ⌝ }
 {
@@ -113,7 +113,7 @@ pub fn start_at(g: Group, state: &mut [u8], out: &mut [u8]) -> u64
 // ---- send
 
 // The term of the entry at a place of the log; 0 at place 0.
-fn term_before(g: Group, h: Head, p: Place, state: &[u8]) -> Term
+fn term_before(g: Caller, h: Head, p: Place, state: &[u8]) -> Term
     requires { ⌜ Tested (whoIn g) h (now state) × (p .0 ≤ h .length .0) ⌝ }
     ensures { λ r. ⌜ r ≡ term (termAt (stateIn (now (state .entry)) .kept .log) (p .0)) ⌝ }
 {
@@ -124,7 +124,7 @@ fn term_before(g: Group, h: Head, p: Place, state: &[u8]) -> Term
 }
 
 // An append with every entry after prev.
-fn send_after(g: Group, h: Head, state: &[u8], peer: Hub, prev: Place, out: &mut [u8]) -> usize
+fn send_after(g: Caller, h: Head, state: &[u8], peer: Hub, prev: Place, out: &mut [u8]) -> usize
     requires { ⌜ Sending (whoIn g) h (now state) (peer .0) (prev .0) (now out) ⌝ }
     ensures { λ r. ⌜ Said (sends (whoIn g) (stateIn (now (state .entry))) (peer .0) (prev .0)) (now (out .entry)) r (now (out .exit)) ⌝ }
 {
@@ -141,7 +141,7 @@ fn send_after(g: Group, h: Head, state: &[u8], peer: Hub, prev: Place, out: &mut
 }
 
 // Whether a send is refused: to a number outside 1..N or to itself, or prev above length.
-fn is_bad_send(g: Group, h: Head, peer: u32, prev: u32) -> bool
+fn is_bad_send(g: Caller, h: Head, peer: u32, prev: u32) -> bool
     ensures { λ r. ⌜ r ≡ (not (isHub (g .size) peer) || (eqb peer (g .own .0) || ltb (h .length .0) prev)) ⌝ }
 {
     let inside = (1 <= peer) & (peer <= g.size);
@@ -150,7 +150,7 @@ fn is_bad_send(g: Group, h: Head, peer: u32, prev: u32) -> bool
 
 // Send, at a leader, to a named peer from a named prev: an append with every entry after prev. A refusal (8: another role; 12: no such peer or prev)
 // leaves every byte.
-pub fn send_at(g: Group, state: &[u8], peer: u32, prev: u32, out: &mut [u8]) -> u64
+pub fn send_at(g: Caller, state: &[u8], peer: u32, prev: u32, out: &mut [u8]) -> u64
     requires { ⌜ Ready (whoIn g) (now state) × (text-room ≤ length (now out)) ⌝ }
     ensures { λ r. ⌜ Gives (send (whoIn g) (stateIn (now (state .entry))) peer prev) (now (state .entry)) (now (out .entry)) r (now (state .entry)) (now (out .exit)) ⌝ }
 {
@@ -167,7 +167,7 @@ pub fn send_at(g: Group, state: &[u8], peer: u32, prev: u32, out: &mut [u8]) -> 
 // ---- answers
 
 // Says vote-no.
-pub fn say_no(g: Group, state: &[u8], to: Hub, out: &mut [u8]) -> usize
+pub fn say_no(g: Caller, state: &[u8], to: Hub, out: &mut [u8]) -> usize
     requires { ⌜ Answering (whoIn g) (now state) (to .0) (now out) ⌝ }
     ensures { λ r. ⌜ Said (says (whoIn g) (stateIn (now (state .entry))) (to .0) vote-no) (now (out .entry)) r (now (out .exit)) ⌝ }
 {
@@ -178,7 +178,14 @@ pub fn say_no(g: Group, state: &[u8], to: Hub, out: &mut [u8]) -> usize
 
 // Answers a vote-request of this last and ballot: yes exactly if own ballot ≤ its ballot, with its last, own ballot and all own entries after last.
 // Otherwise no.
-pub fn say_vote(g: Group, state: &[u8], to: Hub, last: Place, ballot: Term, out: &mut [u8]) -> usize
+pub fn say_vote(
+    g: Caller,
+    state: &[u8],
+    to: Hub,
+    last: Place,
+    ballot: Term,
+    out: &mut [u8],
+) -> usize
     requires { ⌜ Answering (whoIn g) (now state) (to .0) (now out) × (legalBody (stateIn (now state) .kept .term) (vote-request (last .0) (ballot .0)) ≡ true) ⌝ }
     ensures { λ r. ⌜ Said (says (whoIn g) (stateIn (now (state .entry))) (to .0) (vote (stateIn (now (state .entry)) .kept) (last .0) (ballot .0))) (now (out .entry)) r (now (out .exit)) ⌝ }
 {
@@ -197,7 +204,7 @@ pub fn say_vote(g: Group, state: &[u8], to: Hub, last: Place, ballot: Term, out:
 }
 
 // Says append-no, with own length.
-pub fn say_length(g: Group, state: &[u8], to: Hub, out: &mut [u8]) -> usize
+pub fn say_length(g: Caller, state: &[u8], to: Hub, out: &mut [u8]) -> usize
     requires { ⌜ Answering (whoIn g) (now state) (to .0) (now out) ⌝ }
     ensures { λ r. ⌜ Said (says (whoIn g) (stateIn (now (state .entry))) (to .0) (append-no (len (stateIn (now (state .entry)))))) (now (out .entry)) r (now (out .exit)) ⌝ }
 {
@@ -207,7 +214,7 @@ pub fn say_length(g: Group, state: &[u8], to: Hub, out: &mut [u8]) -> usize
 }
 
 // Says append-yes, with this end.
-pub fn say_end(g: Group, state: &[u8], to: Hub, end: Place, out: &mut [u8]) -> usize
+pub fn say_end(g: Caller, state: &[u8], to: Hub, end: Place, out: &mut [u8]) -> usize
     requires { ⌜ Answering (whoIn g) (now state) (to .0) (now out) × (end .0 ≤ limit) ⌝ }
     ensures { λ r. ⌜ Said (says (whoIn g) (stateIn (now (state .entry))) (to .0) (append-yes (end .0))) (now (out .entry)) r (now (out .exit)) ⌝ }
 {

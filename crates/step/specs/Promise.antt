@@ -17,10 +17,10 @@ use Rattle.state.specs.Head.{headIn}
 use Rattle.rules.specs.Outcome.{Next, done}
 use Rattle.rules.specs.Receive.{Effect, idle, effect, contradicts}
 use Rattle.rules.specs.Step.{Call, Answer, over, written}
-use Rattle.step.specs.declared.Group.{Group}
+use Rattle.step.specs.declared.Caller.{Caller}
 
 -- The group's size and the own number, as the code has them.
-abbrev pub whoIn : Group → Who
+abbrev pub whoIn : Caller → Who
 whoIn g = record { size = g .size; own = g .own .0 }
 
 -- ---- the whole call

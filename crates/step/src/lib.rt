@@ -54,8 +54,8 @@ const BAD_COMMAND: u32 = 10;
 
 const LOG_FULL: u32 = 11;
 
-// The group's size and the own number: what every call says of the hub.
-pub struct Group {
+// Who is called: the size of its group, and its own number. They come with every call.
+pub struct Caller {
     pub size: u32,
     pub own: Hub,
 }
@@ -149,7 +149,7 @@ pub fn take_head(h: Head, chosen: Place, n: Place) -> Head
 // ---- the tests before every event
 
 // N is 3, 5 or 7, the own number in 1..N, the event one of the five.
-fn is_known(g: Group, event: u32) -> bool
+fn is_known(g: Caller, event: u32) -> bool
     ensures { λ r. ⌜ r ≡ isKnown (whoIn g) event ⌝ }
 {
     let n = g.size;
@@ -159,7 +159,7 @@ fn is_known(g: Group, event: u32) -> bool
 }
 
 // Whether the state that the event needs is legal: restart needs the kept parts alone.
-fn is_fit(g: Group, event: u32, state: &[u8]) -> bool
+fn is_fit(g: Caller, event: u32, state: &[u8]) -> bool
     ensures { λ r. ⌜ r ≡ isFit (whoIn g) event (now (state .entry)) ⌝ }
 {
     if event == RESTART {
@@ -169,7 +169,7 @@ fn is_fit(g: Group, event: u32, state: &[u8]) -> bool
 }
 
 // The refusals before every event, in the order of rule R32: 1, 2, 3; 0 if there is none.
-pub fn refusal_before(g: Group, event: u32, state: &[u8], out: &[u8]) -> u32
+pub fn refusal_before(g: Caller, event: u32, state: &[u8], out: &[u8]) -> u32
     ensures { λ r. ⌜ r ≡ gate (whoIn g) event (now (state .entry)) (now (out .entry)) ⌝ }
 {
     if !is_known(g, event) {
@@ -200,7 +200,7 @@ pub fn clear_gathered(h: Head, state: &mut [u8])
 }
 
 // Becomes a follower of its own term or of a higher one, lost parts cleared.
-pub fn raise_in(g: Group, h: Head, t: Term, state: &mut [u8])
+pub fn raise_in(g: Caller, h: Head, t: Term, state: &mut [u8])
     requires { ⌜ Raises (whoIn g) h (t .0) (now state) ⌝ }
     ensures { λ _. ⌜ now (state .exit) ≡ image (raised (stateIn (now (state .entry))) (t .0)) ⌝ }
 {
@@ -211,7 +211,7 @@ pub fn raise_in(g: Group, h: Head, t: Term, state: &mut [u8])
 // ---- start
 
 // Follower or candidate: term +1; candidate; voters = itself; rest of the lost parts cleared.
-pub fn start_in(g: Group, h: Head, state: &mut [u8])
+pub fn start_in(g: Caller, h: Head, state: &mut [u8])
     requires { ⌜ Starts (whoIn g) h (now state) ⌝ }
     ensures { λ _. ⌜ now (state .exit) ≡ image (started (whoIn g) (stateIn (now (state .entry)))) ⌝ }
 {
@@ -235,7 +235,7 @@ pub fn restart_in(state: &mut [u8])
 // ---- propose
 
 // Adds a command with the present term behind a leader's log.
-fn add_entry(g: Group, h: Head, state: &mut [u8], command: &[u8])
+fn add_entry(g: Caller, h: Head, state: &mut [u8], command: &[u8])
     requires { ⌜ Adds (whoIn g) h (now state) (now command) ⌝ }
     ensures { λ _. ⌜ now (state .exit) ≡ image (propose (whoIn g) (stateIn (now (state .entry))) (readProposal (now (command .entry))) .state) ⌝ }
 {
@@ -249,7 +249,7 @@ fn add_entry(g: Group, h: Head, state: &mut [u8], command: &[u8])
 }
 
 // Propose (leader): the command is added with the present term; own confirmed length follows.
-pub fn propose_at(g: Group, state: &mut [u8], command: &[u8]) -> u32
+pub fn propose_at(g: Caller, state: &mut [u8], command: &[u8]) -> u32
     requires { ⌜ Ready (whoIn g) (now state) ⌝ }
     ensures { λ r. ⌜ Quiet (propose (whoIn g) (stateIn (now (state .entry))) (readProposal (now (command .entry)))) (now (state .entry)) r (now (state .exit)) ⌝ }
 {
@@ -313,7 +313,7 @@ pub fn greater(a: Place, b: Place) -> Place
 // ---- append-yes
 
 // A leader's head with the confirmed length of another hub; chosen = the greater of itself and the largest place confirmed by a majority.
-fn confirm(g: Group, h: Head, from: Hub, end: Place) -> Head
+fn confirm(g: Caller, h: Head, from: Hub, end: Place) -> Head
     requires { ⌜ (1 ≤ from .0) × (from .0 ≤ 7) × (g .size ≤ 7) ⌝ }
     ensures { λ r. ⌜ r ≡ confirming h (from .0) end (place (max (h .chosen .0) (majorityPlace (g .size) (map (λ q. q .0) (set (h .confirmed) (from .0 - 1) end))))) ⌝ }
 {
@@ -336,7 +336,7 @@ fn is_more(h: Head, from: Hub, end: Place) -> bool
 }
 
 // append-yes at a leader, with a greater end than recorded: recorded. Otherwise nothing.
-pub fn hear_end(g: Group, state: &mut [u8], from: Hub, end: Place) -> bool
+pub fn hear_end(g: Caller, state: &mut [u8], from: Hub, end: Place) -> bool
     requires { ⌜ HearsEnd (whoIn g) (now state) (from .0) (end .0) ⌝ }
     ensures { λ r. ⌜ Ruled (heardEnd (whoIn g) (stateIn (now (state .entry))) (from .0) (end .0)) (now (state .entry)) r (now (state .exit)) ⌝ }
 {
@@ -354,7 +354,7 @@ pub fn hear_end(g: Group, state: &mut [u8], from: Hub, end: Place) -> bool
 // ---- append
 
 // The term of the entry at a place of the log, which is not 0.
-pub fn term_of(g: Group, h: Head, p: Place, state: &[u8]) -> Term
+pub fn term_of(g: Caller, h: Head, p: Place, state: &[u8]) -> Term
     requires { ⌜ Tested (whoIn g) h (now state) × (1 ≤ p .0) × (p .0 ≤ h .length .0) ⌝ }
     ensures { λ r. ⌜ r ≡ term (termAt (stateIn (now (state .entry)) .kept .log) (p .0)) ⌝ }
 {
@@ -362,7 +362,7 @@ pub fn term_of(g: Group, h: Head, p: Place, state: &[u8]) -> Term
 }
 
 // Prev is 0, or prev ≤ length and the entry there has term prevterm.
-fn is_following(g: Group, h: Head, prev: Place, prevterm: Term, state: &[u8]) -> bool
+fn is_following(g: Caller, h: Head, prev: Place, prevterm: Term, state: &[u8]) -> bool
     requires { ⌜ Tested (whoIn g) h (now state) ⌝ }
     ensures { λ r. ⌜ r ≡ follows (stateIn (now (state .entry)) .kept) (prev .0) (prevterm .0) ⌝ }
 {
@@ -376,7 +376,7 @@ fn is_following(g: Group, h: Head, prev: Place, prevterm: Term, state: &[u8]) ->
 }
 
 // Whether an append fits: it follows, and also ballot = term or prev+count ≥ length.
-pub fn is_fitting(g: Group, h: Head, prev: Place, prevterm: Term, end: Place, state: &[u8]) -> bool
+pub fn is_fitting(g: Caller, h: Head, prev: Place, prevterm: Term, end: Place, state: &[u8]) -> bool
     requires { ⌜ Tested (whoIn g) h (now state) ⌝ }
     ensures { λ r. ⌜ r ≡ fits (stateIn (now (state .entry)) .kept) (prev .0) (prevterm .0) (end .0) ⌝ }
 {
