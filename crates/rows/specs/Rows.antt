@@ -1,5 +1,5 @@
 -- A row of 20 bytes: four of a number, big-endian, and the 16 of a command. An entry of a log or of a message has its term as the number, a gathered
--- pair its ballot. What stands in other bytes than a row's is not a row: bytes are read 20 at a time, whatever they are. Assumes nothing.
+-- pair its ballot. Any 20 bytes are read as a row; whether it is legal is a test apart. Assumes nothing.
 use Prim.Native.Nat.{ℕ, zero, suc}
 use mathlib.Core.Bool.{Bool, true, cond, _&&_}
 use mathlib.Core.List.{List, [], _∷_, _++_}
