@@ -13,4 +13,3 @@ pub mod Theorems
 pub mod StepLaws
 pub mod Computed
 pub mod Cases
-pub mod ShowsLaws

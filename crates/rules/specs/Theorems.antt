@@ -93,14 +93,6 @@ NextIsLegal = (w : Who) (s : State) (o : Occasion) → Meets w s o → legalStat
 abbrev pub NothingFalls : Type 0
 NothingFalls = (w : Who) (s : State) (o : Occasion) → Meets w s o → Grows (s .kept) (happens w s o .state .kept)
 
--- What is kept changes only where term, ballot, chosen or the log's length does: who compares these knows whether there is anything to store.
-abbrev pub ChangeShows : Type 0
-ChangeShows =
-    (w : Who) (s : State) (o : Occasion) → Meets w s o
-    → let k = s .kept in
-    let next = happens w s o .state .kept in
-    next .term ≡ k .term → next .ballot ≡ k .ballot → length (next .log) ≡ length (k .log) → next .log ≡ k .log
-
 -- A written message is legal, the replies to stale messages too.
 abbrev pub MessageIsLegal : Type 0
 MessageIsLegal =

@@ -19,14 +19,14 @@ use Rattle.message.specs.Message.{Message, Body, vote-request, vote-yes, vote-n
 use Rattle.message.specs.Legal.{legalMessage}
 use Rattle.state.specs.State.{Kept, Lost, follower, candidate, leader, State}
 use Rattle.state.specs.Legal.{legalLost, legalState}
 use Rattle.rules.specs.Outcome.{Next}
 use Rattle.rules.specs.Events.{isLeader, len, termAt, withTerm, leads, started, start, withEntry, proposeLeading, propose, send, restart}
 use Rattle.rules.specs.Receive.{Effect, idle, effect, joined, counted, heardYes, fits, replaced, taken, heardAppend, recorded, heardEnd, rule, isMisaddressed, isStale, contradicts, atOwnTerm, receive}
 use Rattle.rules.specs.Happens.{to-start, to-propose, to-send, to-restart, to-receive, happens, legalAt}
-use Rattle.rules.specs.Theorems.{ChangeShows}
+use Rattle.kept.specs.Change.{ChangeShows}
 use Rattle.rows.proofs.BoolLaws.{and-first, or-either, cond-either}
 use Rattle.state.proofs.LegalLaws.{legalCandidate-is, legalState-lost}
 use Rattle.rules.proofs.Theorems.{raised-term}
 
 -- With the same term, ballot and length the log is the same.
 abbrev Shows : Kept → Kept → Type 0
