@@ -1,15 +1,15 @@
 -- Laws of what reading and writing a command answer: one for each way through the code; and that an answer is the only one. Assumes nothing.
-use Prim.Native.Nat.{ℕ, zero, suc, _+_, _*_, _/_, _%_, _≤_, _<_}
+use Prim.Native.Nat.{ℕ, _+_, _*_, _/_, _%_, _≤_, _<_}
 use native.Mathlib.Omega.{arith}
 use native.Mathlib.Nat.{add-zero}
 use mathlib.Core.Path.{_≡_, refl, sym, _∙_, ap}
 use mathlib.Core.Logic.{⊎-elim}
-use mathlib.Core.Bool.{Bool, true, false, _&&_, _||_, and-false, or-false}
+use mathlib.Core.Bool.{true, false, _&&_, _||_, and-false}
 use mathlib.Core.List.{List, [], _∷_, _++_, append-assoc, append-nil}
-use borrow.Author.Tests.{leb-true, ltb-true, eqb-true, eq-eqb, ne-eqb, lt-ltb, le-ltb, le-leb, lt-leb}
+use borrow.Author.Tests.{leb-true, ltb-true, eqb-true, eq-eqb, ne-eqb, lt-ltb, le-ltb}
 use lib.Dec.{leb, eqb}
 use lib.IntN.{ℤ, pos, negsuc}
-use lib.ListN.{length, drop, getD}
+use lib.ListN.{length, drop}
 use lib.Seq.{sets, sets-eq}
 use lib.Signed.{ltZ}
 use mir.Syntax.{w32}
@@ -34,7 +34,6 @@ use Rattle.command.specs.Case.{commandIs, motionOf}
 use Rattle.command.specs.declared.Motion.{Motion}
 use Rattle.kinds.specs.Outcome.{done, short-output, bad-command}
 use Rattle.command.specs.Answers.{
-  kindLimits,
   commandWith,
   ofNumbers,
   ofWords,
@@ -92,44 +91,6 @@ pub legal-numbers : (motor kind x a b : ℕ) →
     || (eqb kind 2 && ((leb 1 x && leb x 600_000) && (leb a 0x3f80_0000 && leb b 0x3f80_0000))))))
 unfolding legalCommand isStop isBuzz isRamp isGain between
 legal-numbers motor kind x a b = rw (isZero-signed x, isDuration-signed x)
-
--- ---- within the limits of its kind
-
--- At most zero is zero.
-zero-most : (x : ℕ) → leb x 0 ≡ eqb x 0
-zero-most zero = refl
-zero-most (suc x) = lt-leb (suc x) 0 (omega arith) ∙ sym (ne-eqb (suc x) 0 (λ e. omega arith))
-
--- A test of the numbers by the limits at a place of the list.
-unfoldable pub within : List ℕ → ℕ → ℕ → ℕ → ℕ → ℕ → Bool
-within l k motor x a b =
-    (leb 1 motor && leb motor 64)
-    && ((leb (getD l k 0) x && leb x (getD l (k + 1) 0)) && (leb a (getD l (k + 2) 0) && leb b (getD l (k + 3) 0)))
-
--- A kind within the list: its limits decide.
-legal-here : (motor kind x a b : ℕ) → kind ≤ 2 → within kindLimits (kind * 4) motor x a b ≡ legalCommand (commandWith motor kind (signed x) a b)
-unfolding within kindLimits
-legal-here motor zero x a b h =
-    rw (legal-numbers motor 0 x a b, zero-most x, zero-most a, zero-most b) (simp (le-leb 0 x (omega arith), or-false))
-legal-here motor (suc zero) x a b h = rw (legal-numbers motor 1 x a b, zero-most b) (simp or-false)
-legal-here motor (suc (suc zero)) x a b h = rw (legal-numbers motor 2 x a b)
-legal-here motor (suc (suc (suc k))) x a b h = absurd (omega arith)
-
--- The same with the list as it is lent.
-pub legal-within : {l : List ℕ} (motor kind x a b : ℕ) → l ≡ kindLimits → kind ≤ 2 →
-    within l (kind * 4) motor x a b ≡ legalCommand (commandWith motor kind (signed x) a b)
-legal-within motor kind x a b e h = rw e (legal-here motor kind x a b h)
-
--- There is no other kind.
-pub legal-other : (motor kind x a b : ℕ) → 2 < kind → legalCommand (commandWith motor kind (signed x) a b) ≡ false
-legal-other motor kind x a b h =
-    rw (
-      legal-numbers motor kind x a b,
-      ne-eqb kind 0 (λ e. omega arith),
-      ne-eqb kind 1 (λ e. omega arith),
-      ne-eqb kind 2 (λ e. omega arith),
-      and-false,
-    )
 
 -- The numbers of a legal command are small.
 pub record Small (n : Numbers) : Type 0 where

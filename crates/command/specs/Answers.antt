@@ -29,10 +29,6 @@ ofNumbers n = commandWith (n .motor) (n .kind) (signed (n .duration)) (n .a) (n 
 unfoldable pub ofWords : ℕ → ℕ → ℕ → ℕ → Command
 ofWords what duration a b = commandWith (what / 65_536) (what % 65_536) (signed duration) a b
 
--- The limits of kinds 0, 1 and 2, four numbers each: the least and the most duration, the most a, the most b.
-unfoldable pub kindLimits : List ℕ
-kindLimits = 0 ∷ 0 ∷ 0 ∷ 0 ∷ 1 ∷ 600_000 ∷ 0x3f80_0000 ∷ 0 ∷ 1 ∷ 600_000 ∷ 0x3f80_0000 ∷ 0x3f80_0000 ∷ []
-
 -- The numbers of the 16 bytes from a place on.
 unfoldable pub numbersAt : ℕ → List ℕ → Numbers
 numbersAt at l =

@@ -11,7 +11,7 @@ ghost use lib.Seq.{sets};
 ghost use Rattle.command.specs.Words.{word, wordAt, part, unsigned};
 ghost use Rattle.command.specs.Command.{legalCommand, command-size, commandBytes, commandOf};
 ghost use Rattle.command.specs.Case.{kindOf, aOf, bOf, caseOf, commandIs, motionOf};
-ghost use Rattle.command.specs.Answers.{kindLimits, ofNumbers, ofWords, numbersAt, isCommand, readAs, listOf, told, written, Answers, commandWith};
+ghost use Rattle.command.specs.Answers.{ofNumbers, ofWords, numbersAt, isCommand, readAs, listOf, told, written, Answers, commandWith};
 
 // How many bytes a command has.
 const SIZE: usize = 16;
@@ -150,37 +150,6 @@ pub fn is_legal_at(s: &[u8], at: usize) -> bool
     ensures { λ r. ⌜ r ≡ legalCommand (commandOf (part at command-size (now (s .entry)))) ⌝ }
 {
     is_legal(numbers_at(s, at))
-}
-
-// The limits of each kind: the least and the most duration, the most a, the most b.
-pub fn limits() -> [u32; 12]
-    ensures { λ r. ⌜ r ≡ kindLimits ⌝ }
-{
-    let d = DURATION_MOST;
-    let g = GAIN_MOST;
-    [0, 0, 0, 0, 1, d, g, 0, 1, d, g, g]
-}
-
-// Whether the command of these numbers is within the limits of its kind.
-fn is_within(limits: &[u32; 12], n: Numbers) -> bool
-    requires { ⌜ now limits ≡ kindLimits ⌝ }
-    ensures { λ r. ⌜ r ≡ legalCommand (ofNumbers n) ⌝ }
-{
-    let kind = n.kind;
-    if 2 < kind {
-        return false;
-    }
-    let k = (kind as usize) * 4;
-    let timed = (limits[k] <= n.duration) & (n.duration <= limits[k + 1]);
-    ((1 <= n.motor) & (n.motor <= 64)) & (timed & ((n.a <= limits[k + 2]) & (n.b <= limits[k + 3])))
-}
-
-// Whether the 16 bytes from a place on are a legal command, with the limits lent: a loop over many tests them faster so.
-pub fn is_legal_in(limits: &[u32; 12], s: &[u8], at: usize) -> bool
-    requires { ⌜ (now limits ≡ kindLimits) × (at + 16 ≤ length (now s)) ⌝ }
-    ensures { λ r. ⌜ r ≡ legalCommand (commandOf (part at command-size (now (s .entry)))) ⌝ }
-{
-    is_within(limits, numbers_at(s, at))
 }
 
 // Whether these bytes are a legal command: 16 of them, and legal.

@@ -4,7 +4,6 @@ ghost use mathlib.Core.Bool.{cond};
 ghost use Prim.Native.Nat.{_+_, _*_, _≤_};
 ghost use lib.ListN.{length, drop};
 ghost use lib.Seq.{sets};
-ghost use Rattle.command.specs.Answers.{kindLimits};
 ghost use Rattle.rows.specs.Rows.{rowOf, rowsIn, legalRows};
 ghost use Rattle.rows.specs.Words.{wordsAt, wordsBytes, rowWords, renumbered};
 
@@ -77,17 +76,9 @@ fn least_behind(rising: bool, t: u32, low: u32) -> u32
     if rising { t } else { low }
 }
 
-// Whether n rows from a place on are legal, with the limits of commands lent.
-fn are_legal_in(
-    limits: &[u32; 12],
-    s: &[u8],
-    from: usize,
-    n: u32,
-    rising: bool,
-    low: u32,
-    high: u32,
-) -> bool
-    requires { ⌜ (now limits ≡ kindLimits) × (from + n * 20 ≤ length (now s)) ⌝ }
+// Whether n rows from a place on are legal: numbers from low to high, where they have to rise none below the one before; commands legal.
+pub fn are_legal(s: &[u8], from: usize, n: u32, rising: bool, low: u32, high: u32) -> bool
+    requires { ⌜ from + n * 20 ≤ length (now s) ⌝ }
     ensures { λ r. ⌜ r ≡ legalRows rising low high (rowsIn rowOf n (drop from (now (s .entry)))) ⌝ }
 {
     let mut least = low;
@@ -95,7 +86,7 @@ fn are_legal_in(
     let mut left = n;
     while 0 < left {
         let t = command::get32(s, at);
-        if !((least <= t) & ((t <= high) & command::is_legal_in(limits, s, at + 4))) {
+        if !((least <= t) & ((t <= high) & command::is_legal_at(s, at + 4))) {
             return false;
         }
         least = least_behind(rising, t, least);
@@ -103,13 +94,4 @@ fn are_legal_in(
         left -= 1;
     }
     true
-}
-
-// Whether n rows from a place on are legal: numbers from low to high, where they have to rise none below the one before; commands legal.
-pub fn are_legal(s: &[u8], from: usize, n: u32, rising: bool, low: u32, high: u32) -> bool
-    requires { ⌜ from + n * 20 ≤ length (now s) ⌝ }
-    ensures { λ r. ⌜ r ≡ legalRows rising low high (rowsIn rowOf n (drop from (now (s .entry)))) ⌝ }
-{
-    let limits = command::limits();
-    are_legal_in(&limits, s, from, n, rising, low, high)
 }

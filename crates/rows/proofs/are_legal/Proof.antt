@@ -1,4 +1,4 @@
--- `rows::are_legal_in` meets its contract. The loop's invariant: the rows that are left decide as all of them do. The measure is how many are left.
+-- `rows::are_legal` meets its contract. The loop's invariant: the rows that are left decide as all of them do. The measure is how many are left.
 -- Assumes nothing.
 use Prim.Native.Nat.{_+_, _-_, _*_, _≤_}
 use native.Mathlib.Omega.{arith}
@@ -8,20 +8,20 @@ use borrow.Author.Tests.{not-true, not-false}
 use lib.ListN.{length, drop}
 use Rattle.rows.specs.Rows.{row-size, rowOf, rowsIn, legalRows}
 use Rattle.rows.proofs.LegalLaws.{row-stops, row-goes, rows-end}
-use Rattle.rows.proofs.are_legal_in.Statement.{statement}
-use Rattle.rows.proofs.are_legal_in.Tie as tie
+use Rattle.rows.proofs.are_legal.Statement.{statement}
+use Rattle.rows.proofs.are_legal.Tie as tie
 
 abbrev Inv-loop : tie.InvT-loop
-Inv-loop limits s from n rising low high least₀ at₀ left₀ least at left =
+Inv-loop s from n rising low high least₀ at₀ left₀ least at left =
     (at + left * row-size ≤ length s)
     × (legalRows rising low high (rowsIn rowOf n (drop from s)) ≡ legalRows rising least high (rowsIn rowOf left (drop at s)))
 
 abbrev μ-loop : tie.MeasureT-loop
-μ-loop limits s from n rising low high least₀ at₀ left₀ least at left = left
+μ-loop s from n rising low high least₀ at₀ left₀ least at left = left
 
 -- Nothing is passed yet.
 begun : tie.Need-loop-holds Inv-loop μ-loop
-begun c = (omega (arith, c .before .pre .1), refl)
+begun c = (omega (arith, c .before .pre), refl)
 
 -- A row that is not legal.
 found : tie.Need-returns Inv-loop μ-loop
@@ -29,8 +29,8 @@ found c =
     let at-loop = c .before .before .before .before .loop in
     let args = c .before .before .before .before .before .before .args in
     let row =
-    row-stops (args .s .now) (at-loop .at) (at-loop .left) (at-loop .left - 1) (c .before .before .get32 .result) (c .before .is-legal-in .result)
-    (omega (arith, c .before .before .before .loop-test .taken)) (c .before .before .get32 .ensures) (c .before .is-legal-in .ensures) (args .rising)
+    row-stops (args .s .now) (at-loop .at) (at-loop .left) (at-loop .left - 1) (c .before .before .get32 .result) (c .before .is-legal-at .result)
+    (omega (arith, c .before .before .before .loop-test .taken)) (c .before .before .get32 .ensures) (c .before .is-legal-at .ensures) (args .rising)
     (at-loop .least) (args .high) (not-true _ (c .if1 .taken)) in
     sym (at-loop .inv .1 ∙ row)
 
@@ -42,8 +42,8 @@ again c =
     let args = at-test .before .before .before .before .before .before .args in
     let taken = at-test .before .before .before .loop-test .taken in
     let row =
-    row-goes (args .s .now) (at-loop .at) (at-loop .left) (at-loop .left - 1) (at-test .before .before .get32 .result) (at-test .before .is-legal-in .result)
-    (omega (arith, taken)) (at-test .before .before .get32 .ensures) (at-test .before .is-legal-in .ensures) (args .rising) (at-loop .least) (args .high)
+    row-goes (args .s .now) (at-loop .at) (at-loop .left) (at-loop .left - 1) (at-test .before .before .get32 .result) (at-test .before .is-legal-at .result)
+    (omega (arith, taken)) (at-test .before .before .get32 .ensures) (at-test .before .is-legal-at .ensures) (args .rising) (at-loop .least) (args .high)
     (c .least-behind .result) (c .least-behind .ensures) (not-false _ (at-test .if1 .left)) in
     (omega (arith, at-loop .inv .0, taken), at-loop .inv .1 ∙ row)
 
@@ -54,8 +54,8 @@ passed c =
     let args = c .before .before .before .args in
     sym (at-loop .inv .1 ∙ rows-end (args .rising) (at-loop .least) (args .high) (at-loop .left) (drop (at-loop .at) (args .s .now)) (c .loop-test .left))
 
-pub are-legal-in-spec : {M : Type 1} → statement M
-are-legal-in-spec =
+pub are-legal-spec : {M : Type 1} → statement M
+are-legal-spec =
     tie.close
     (tie.spec Inv-loop μ-loop begun (λ c κs. search needs) (λ c. search needs) (λ c κs. search needs) found (λ c κs. search needs)
     (λ c. search needs) (λ c. search needs) (λ c. search needs) again passed)
