@@ -21,12 +21,6 @@ const FIELDS: usize = 5;
 const GAIN_MOST: u32 = 0x3f80_0000;
 // The longest duration, in ms.
 const DURATION_MOST: u32 = 600_000;
-// Outcomes (rule R32).
-const DONE: u32 = 0;
-
-const SHORT_OUTPUT: u32 = 3;
-
-const BAD_COMMAND: u32 = 10;
 
 // A command is a stop, a buzz that carries its gain, or a ramp that carries its two gains, from and to.
 pub enum Case {
@@ -278,13 +272,13 @@ pub fn read_numbers(bytes: &[u8], numbers: &mut [u32]) -> u32
     ensures { λ r. ⌜ Answers (told (now (bytes .entry)) (now (numbers .entry))) r (now (numbers .exit)) ⌝ }
 {
     if numbers.len() < FIELDS {
-        return SHORT_OUTPUT;
+        return kinds::SHORT_OUTPUT;
     }
     if !is_command(bytes) {
-        return BAD_COMMAND;
+        return kinds::BAD_COMMAND;
     }
     put_fields(numbers_at(bytes, 0), numbers);
-    DONE
+    kinds::DONE
 }
 
 // The 32 bits of a duration that is not below zero.
@@ -301,10 +295,10 @@ pub fn write_numbers(motor: u32, kind: u32, duration: i32, a: u32, b: u32, out: 
     ensures { λ r. ⌜ Answers (written (commandWith motor kind duration a b) (now (out .entry))) r (now (out .exit)) ⌝ }
 {
     if out.len() < SIZE {
-        return SHORT_OUTPUT;
+        return kinds::SHORT_OUTPUT;
     }
     if duration < 0 {
-        return BAD_COMMAND;
+        return kinds::BAD_COMMAND;
     }
     let n = Numbers {
         motor: motor,
@@ -314,8 +308,8 @@ pub fn write_numbers(motor: u32, kind: u32, duration: i32, a: u32, b: u32, out: 
         b: b,
     };
     if !is_legal(n) {
-        return BAD_COMMAND;
+        return kinds::BAD_COMMAND;
     }
     put_numbers(n, out);
-    DONE
+    kinds::DONE
 }

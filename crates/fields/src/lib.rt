@@ -16,10 +16,6 @@ use message::Fields;
 
 // The most places that a log has.
 const LIMIT: u32 = 256;
-// The greatest hub number of any group.
-const HUBS: u32 = 7;
-// The greatest term.
-const TERM_MOST: u32 = 0xffff_ffff;
 
 // The slots of the fields' numbers. Fields that no type has together share one.
 const TERM: usize = 0;
@@ -201,14 +197,17 @@ pub fn range_of(kind: Kind, field: Field, ns: &[u32; 7]) -> Bounds
     match field {
         Field::Term => Bounds {
             lo: 1,
-            hi: TERM_MOST,
+            hi: kinds::TERM_MOST,
         },
-        Field::From => Bounds { lo: 1, hi: HUBS },
+        Field::From => Bounds {
+            lo: 1,
+            hi: kinds::HUBS,
+        },
         Field::To => {
             let all = is_vote_request(kind);
             Bounds {
                 lo: pick(all, 0, 1),
-                hi: pick(all, 0, HUBS),
+                hi: pick(all, 0, kinds::HUBS),
             }
         }
         Field::Last => Bounds {

@@ -9,11 +9,11 @@ use borrow.Author.Tests.{le-leb, lt-leb}
 use lib.Dec.{leb}
 use lib.ListN.{length, replicate, set}
 use lib.Seq.{sets}
-use Rattle.kinds.specs.Sizes.{Who, hubs-most, majority, limit}
+use Rattle.kinds.specs.Sizes.{Who, hubs-most, majority, limit, row-size}
 use Rattle.state.specs.declared.Head.{Head}
 use Rattle.state.specs.State.{Kept, Pair, candidate, State}
 use Rattle.state.specs.Legal.{count}
-use Rattle.rows.specs.Rows.{row-size, entryRow}
+use Rattle.rows.specs.Rows.{entryRow}
 use Rattle.state.specs.Image.{head-size, roleOf, votersOf, gatheredOf, confirmedOf, image}
 use Rattle.state.specs.Head.{bytesOfHead, headOf}
 use Rattle.state.specs.Table.{pairRow, rowsOf, table}

@@ -10,7 +10,7 @@ use lib.ListN.{length, drop}
 use lib.Seq.{sets, length-sets}
 use Rattle.kinds.specs.declared.Term.{Term}
 use Rattle.kinds.specs.Of.{term}
-use Rattle.kinds.specs.Sizes.{term-most}
+use Rattle.kinds.specs.Sizes.{term-most, row-size}
 use Rattle.command.specs.Words.{wordAt}
 use Rattle.command.specs.Entry.{Entry, legalEntries}
 use Rattle.command.proofs.EntryLaws.{legalEntries-first, legalEntries-wider}
@@ -20,7 +20,7 @@ use Rattle.message.specs.Text.{entriesText}
 use Rattle.message.specs.Walk.{entryLine, entriesFrom, Lie}
 use Rattle.entries.specs.Found.{FoundEntry}
 use Rattle.entries.proofs.WalkLaws.{stood-on, stood-at}
-use Rattle.rows.specs.Rows.{row-size, row}
+use Rattle.rows.specs.Rows.{row}
 use Rattle.rows.specs.declared.Words.{Words}
 use Rattle.rows.specs.Words.{rowWords}
 use Rattle.step.specs.Gather.{gatheredInto}

@@ -8,14 +8,14 @@ use mathlib.Core.Option.{none}
 use borrow.Author.Tests.{eqb-true, ltb-true, not-false}
 use lib.Dec.{leb, ltb, eqb}
 use lib.ListN.{length, getD, set, length-map, length-set}
-use Rattle.kinds.specs.Sizes.{Who, hubs-most, term-most, limit}
+use Rattle.kinds.specs.Sizes.{Who, hubs-most, term-most, limit, row-size}
 use Rattle.command.specs.Entry.{Entry}
 use Rattle.message.specs.Message.{vote-yes}
 use Rattle.message.specs.Walk.{entriesFrom}
 use Rattle.state.specs.declared.Head.{Head}
 use Rattle.state.specs.State.{Kept, Pair, Lost, follower, candidate, leader, State}
 use Rattle.state.specs.Legal.{all, legalPair, legalLost, legalState}
-use Rattle.rows.specs.Rows.{row-size, Row, entryRow}
+use Rattle.rows.specs.Rows.{Row, entryRow}
 use Rattle.state.specs.Image.{head-size, roleOf, votersOf, gatheredOf, confirmedOf, image, stateIn}
 use Rattle.state.specs.Head.{headIn, bytesOfHead, headOf}
 use Rattle.state.specs.Table.{pairRow, rowsOf, table}

@@ -7,11 +7,10 @@ use lib.Dec.{leb, ltb}
 use lib.ListN.{length, set}
 use lib.Seq.{sets}
 use Rattle.kinds.specs.Of.{place}
-use Rattle.kinds.specs.Sizes.{Who, hubs-most, majority, limit}
+use Rattle.kinds.specs.Sizes.{Who, hubs-most, majority, limit, row-size}
 use Rattle.command.specs.Words.{wordAt}
 use Rattle.state.specs.declared.Head.{Head}
 use Rattle.state.specs.Legal.{count}
-use Rattle.rows.specs.Rows.{row-size}
 use Rattle.state.specs.Image.{head-size, state-size}
 use Rattle.state.specs.Head.{bytesOfHead}
 use Rattle.step.specs.Promise.{HearsYes}

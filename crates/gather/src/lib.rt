@@ -3,8 +3,8 @@ ghost use mathlib.Core.Path.{_≡_};
 ghost use mathlib.Core.Bool.{false};
 ghost use Prim.Native.Nat.{_+_, _-_, _*_, _≤_, max};
 ghost use lib.ListN.{length, drop, getD};
+ghost use Rattle.kinds.specs.Sizes.{row-size};
 ghost use Rattle.message.specs.Walk.{entriesFrom, Lie};
-ghost use Rattle.rows.specs.Rows.{row-size};
 ghost use Rattle.state.specs.Image.{stateIn};
 ghost use Rattle.rules.specs.Receive.{heardYes};
 ghost use Rattle.step.specs.Promise.{whoIn, Ruled};
@@ -18,15 +18,6 @@ use kinds::Term;
 use rows::Words;
 use state::Head;
 use step::Caller;
-
-// The bytes of a row.
-const ROW: usize = 20;
-
-// The role that hears a vote-yes.
-const CANDIDATE: u8 = 1;
-
-// The greatest term.
-const TERM_MOST: u32 = 0xffff_ffff;
 
 // ---- the entries
 
@@ -67,7 +58,7 @@ fn gather_in(
             a,
             b,
             next,
-        } = entries::next_entry(text, &table, i, 1, TERM_MOST)
+        } = entries::next_entry(text, &table, i, 1, kinds::TERM_MOST)
         else {
             // Never: a line stands there for each entry.
             return;
@@ -80,7 +71,7 @@ fn gather_in(
         };
         gather_row(state, row, n < held, ballot, c);
         i = next;
-        row += ROW;
+        row += kinds::ROW;
         n += 1;
     }
 }
@@ -140,7 +131,7 @@ pub fn hear_yes(
     ensures { λ r. ⌜ Ruled (heardYes (whoIn g) (stateIn (now (state .entry))) (from .0) (ballot .0) (entriesFrom count (drop at (now (text .entry))))) (now (state .entry)) r (now (state .exit)) ⌝ }
 {
     let h = head::read_head(state);
-    if h.role != CANDIDATE {
+    if h.role != kinds::CANDIDATE {
         return false;
     }
     if has_voted(h, from) {

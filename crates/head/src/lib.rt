@@ -8,19 +8,14 @@ ghost use lib.ListN.{length, drop};
 ghost use lib.Seq.{sets};
 ghost use Rattle.kinds.specs.Of.{place, term};
 ghost use Rattle.kinds.specs.Hubs.{count};
-ghost use Rattle.kinds.specs.Sizes.{hubs-most};
+ghost use Rattle.kinds.specs.Sizes.{hubs-most, row-size};
 ghost use Rattle.command.specs.Words.{part, word, wordAt};
-ghost use Rattle.rows.specs.Rows.{row-size, bytesOf};
+ghost use Rattle.rows.specs.Rows.{bytesOf};
 ghost use Rattle.state.specs.Image.{head-size, flags, wordsIn};
 ghost use Rattle.state.specs.Head.{headIn, placeBytes, numberBytes, bytesOfHead};
 use kinds::Place;
 use kinds::Term;
 use state::Head;
-
-// The bytes of the head, and of a row of the table.
-const HEAD: usize = 56;
-
-const ROW: usize = 20;
 
 // ---- reading the head
 
@@ -170,7 +165,7 @@ pub fn write_head(s: &mut [u8], h: Head)
 pub fn row_at(i: u32) -> usize
     ensures { λ r. ⌜ r ≡ head-size + i * row-size ⌝ }
 {
-    HEAD + (i as usize) * ROW
+    state::HEAD + (i as usize) * kinds::ROW
 }
 
 // ---- voters

@@ -15,7 +15,7 @@ use Rattle.command.specs.Entry.{Entry}
 use Rattle.state.specs.State.{Kept, reported, reportedAt}
 use Rattle.state.specs.Image.{readKept, reportedIn}
 use Rattle.state.proofs.ImageLaws.{readKept-sound}
-use Rattle.rules.specs.Outcome.{done, bad-state, short-output, bad-send}
+use Rattle.rules.specs.Outcome.{done, bad-state, short-output, out-of-range}
 use Rattle.rules.specs.Report.{told, reporting, reportOf, counting}
 use Rattle.state.proofs.LegalLaws.{legalKept-is}
 use Rattle.paxos.specs.Paxos.{at}
@@ -25,6 +25,7 @@ use Rattle.kinds.proofs.AtLaws.{at-in, at-lt, at-take, in-take, at-map, in-map}
 use Rattle.home.specs.View.{viewOf, viewIn}
 use Rattle.home.specs.Safe.{Hands, HandedIsReported, CountedIsReported}
 use Rattle.home.proofs.ViewLaws.{holds-is, holds-entry, said-lt, lt-said}
+use Rattle.kinds.specs.Packed.{packed}
 
 -- ---- by bytes and by view
 
@@ -79,7 +80,7 @@ handed-is-reported l p out = by (readKept l) refl
       λ (c, x). absurd (omega (arith, x .room, ltb-true (length out) command-size f)),
     )
     at k e false f none g = (
-      λ h. clash (let z : bad-send ≡ done = sym (rw (e, f, g) refl) ∙ h in cc),
+      λ h. clash (let z : out-of-range ≡ done = sym (rw (e, f, g) refl) ∙ h in cc),
       λ (c, x). clash (let q = x .reports in let r = reported-by l p (some k) e ∙ g in cc),
     )
     at k e false f (some c) g = (
@@ -113,9 +114,9 @@ counted-is-reported l n p h = by (readKept l) refl
     )
 
     by : (x : Option Kept) → readKept l ≡ x → ((1 ≤ p) × (p ≤ n)) ↔ ((c : Command) × (reportedIn l p ≡ some c))
-    by none e = absurd (let z : bad-state ≡ n * 4_294_967_296 = sym (rw e refl) ∙ h in omega arith)
+    by none e = absurd (let z : bad-state ≡ packed done n = sym (rw e refl) ∙ h in omega arith)
     by (some k) e =
-        let z : k .chosen * 4_294_967_296 ≡ n * 4_294_967_296 = sym (rw e refl) ∙ h in
+        let z : packed done (k .chosen) ≡ packed done n = sym (rw e refl) ∙ h in
         let same : k .chosen ≡ n = omega arith in
         let (there, back) = places k (legalKept-is k (readKept-sound l k e .1) .chosen) p in (
           λ (a, b). let (c, q) = there (a, omega arith) in (c, reported-by l p (some k) e ∙ q),

@@ -20,6 +20,7 @@ use Rattle.paxos.specs.Paxos.{_∈_}
 use Rattle.engine.specs.Home.{Fair, Runs, Reached}
 use Rattle.engine.specs.Safe.{Reports, Safety}
 use Rattle.home.specs.Hub.{Deed, callFor, hub-engine, Home}
+use Rattle.kinds.specs.Packed.{packed}
 
 -- All of demand 3, for 3, 5 and 7 hubs at once.
 abbrev pub Demand3 : Type 1
@@ -44,7 +45,7 @@ HandedIsReported =
 -- kritnamon_chosen counts exactly the places at which something is reported.
 abbrev pub CountedIsReported : Type 0
 CountedIsReported =
-    (l : List ℕ) (n p : ℕ) → chosenOf l ≡ n * 4_294_967_296 → ((1 ≤ p) × (p ≤ n)) ↔ ((c : Command) × (reportedIn l p ≡ some c))
+    (l : List ℕ) (n p : ℕ) → chosenOf l ≡ packed done n → ((1 ≤ p) × (p ≤ n)) ↔ ((c : Command) × (reportedIn l p ≡ some c))
 
 -- Whatever kritnamon_reported hands over for a place, at any two hubs and any two moments of a run, is the same 16 bytes.
 abbrev pub HandedAgree : Type 0

@@ -1,3 +1,5 @@
 pub mod BetweenLaws
 pub mod Clash
 pub mod AtLaws
+pub mod PackedLaws
+pub mod SizesLaws

@@ -1,4 +1,7 @@
 pub mod Of
 pub mod Sizes
 pub mod Outcome
+pub mod Role
+pub mod Event
+pub mod Packed
 pub mod Hubs

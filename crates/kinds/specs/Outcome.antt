@@ -50,8 +50,8 @@ abbrev pub log-full : ℕ
 log-full = 11
 
 -- Send to a number outside 1..N or to itself, or prev above length.
-abbrev pub bad-send : ℕ
-bad-send = 12
+abbrev pub out-of-range : ℕ
+out-of-range = 12
 
 -- A message of own term for which the rules change nothing in the state and write no message.
 abbrev pub nothing-new : ℕ

@@ -52,3 +52,7 @@ limit = 256
 -- Output buffer: at least 16,384 bytes. Input message: at most 16,384 bytes.
 unfoldable pub text-room : ℕ
 text-room = 16_384
+
+-- An entry takes a row of 20 bytes: four of its number, 16 of its command.
+abbrev pub row-size : ℕ
+row-size = 20

@@ -1,5 +1,5 @@
 -- What reading a message alone tells C (rule R35): an illegal message is 4, too few lent numbers 3. Assumes nothing.
-use Prim.Native.Nat.{ℕ, _+_, _*_}
+use Prim.Native.Nat.{ℕ}
 use mathlib.Core.Bool.{cond}
 use mathlib.Core.List.{List, [], _∷_, _++_}
 use mathlib.Core.Option.{Option, none, some}
@@ -9,6 +9,7 @@ use lib.ListN.{length, drop}
 use Rattle.kinds.specs.Outcome.{done, short-output, bad-message}
 use Rattle.message.specs.Message.{Message, Body, vote-request, vote-yes, vote-no, append, append-yes, append-no}
 use Rattle.message.specs.Text.{read, partFrom}
+use Rattle.kinds.specs.Packed.{packed}
 
 -- How many numbers a message has for C.
 abbrev pub message-numbers : ℕ
@@ -57,5 +58,5 @@ tells s numbers = cond (ltb (length numbers) message-numbers) (tellsNot short-ou
 
 -- The outcome in the lower half of what is returned, where the entry lines begin in the upper one; and the numbers left.
 pub record Tells (t : Told) (r : ℕ) (numbers : List ℕ) : Type 0 where
-  pub returned : r ≡ t .outcome + t .entries * 4_294_967_296
+  pub returned : r ≡ packed (t .outcome) (t .entries)
   pub left : numbers ≡ t .numbers

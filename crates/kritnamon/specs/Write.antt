@@ -1,5 +1,5 @@
 -- What writing a message alone tells C (rule R35): an illegal message is 4, too short an output 3. Assumes nothing.
-use Prim.Native.Nat.{ℕ, _+_, _*_}
+use Prim.Native.Nat.{ℕ}
 use mathlib.Core.Bool.{Bool, cond}
 use mathlib.Core.List.{List}
 use mathlib.Core.Path.{_≡_}
@@ -14,6 +14,7 @@ use Rattle.message.specs.declared.Fields.{Fields}
 use Rattle.writer.specs.Written.{Written, unwritten, written}
 use Rattle.state.specs.Image.{same}
 use Rattle.kritnamon.specs.Numbers.{numbersIn}
+use Rattle.kinds.specs.Packed.{packed}
 
 -- The body of a type's number, three numbers of the type's own and the count; numbers that the type does not have are passed over, and what
 -- is no type's number is read as 6.
@@ -47,5 +48,5 @@ writes ns rows out =
 
 -- The outcome in the lower half of what is returned, the bytes of the text in the upper one; and what is left in the output.
 pub record Leaves (w : Written) (r : ℕ) (out : List ℕ) : Type 0 where
-  pub returned : r ≡ w .outcome + w .bytes * 4_294_967_296
+  pub returned : r ≡ packed (w .outcome) (w .bytes)
   pub left : out ≡ w .out

@@ -24,15 +24,6 @@ use reader::Read;
 use step::Caller;
 use writer::Write;
 
-// The events that have a function of their own; any other that passes the first tests is a message received.
-const START: u32 = 1;
-
-const PROPOSE: u32 = 2;
-
-const SEND: u32 = 3;
-
-const RESTART: u32 = 4;
-
 // Outcomes (rule R32).
 const DONE: u64 = 0;
 
@@ -251,7 +242,7 @@ pub extern "C" fn kritnamon_state_size() -> usize
 pub extern "C" fn kritnamon_places() -> u32
     ensures { λ r. ⌜ r ≡ limit ⌝ }
 {
-    state::limit_places()
+    kinds::places()
 }
 
 // The least bytes of an output.
@@ -286,16 +277,16 @@ fn act(g: Caller, event: u32, a: u32, b: u32, state: &mut [u8], input: &[u8], ou
     requires { ⌜ gate (whoIn g) event (now state) (now out) ≡ 0 ⌝ }
     ensures { λ r. ⌜ Takes (stepOf (call (g .size) (g .own .0) event a b (now (state .entry)) (now (input .entry)) (now (out .entry)))) r (now (state .exit)) (now (out .exit)) ⌝ }
 {
-    if event == START {
+    if event == kinds::START {
         return say::start_at(g, state, out);
     }
-    if event == PROPOSE {
+    if event == kinds::PROPOSE {
         return step::propose_at(g, state, input) as u64;
     }
-    if event == SEND {
+    if event == kinds::SEND {
         return say::send_at(g, state, a, b, out);
     }
-    if event == RESTART {
+    if event == kinds::RESTART {
         step::restart_in(state);
         return DONE;
     }

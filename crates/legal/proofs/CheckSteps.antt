@@ -10,10 +10,10 @@ use borrow.Author.Tests.{eqb-true, leb-true, ltb-true, le-leb, lt-ltb}
 use lib.Dec.{eqb, leb, ltb}
 use lib.ListN.{length, take, drop, getD, take-append-drop, length-drop}
 use lib.Seq.{take-all, drop-drop, drop-cons}
-use Rattle.kinds.specs.Sizes.{Who, between, hubs-most, limit}
+use Rattle.kinds.specs.Sizes.{Who, between, hubs-most, limit, row-size}
 use Rattle.command.specs.Words.{part}
 use Rattle.command.specs.Command.{legalCommand}
-use Rattle.rows.specs.Rows.{rowOf, legalRows, row-size, rowsIn}
+use Rattle.rows.specs.Rows.{rowOf, legalRows, rowsIn}
 use Rattle.rows.proofs.RowLaws.{rowsIn-map}
 use Rattle.rows.proofs.LegalLaws.{entries-held}
 use Rattle.state.specs.State.{Pair}

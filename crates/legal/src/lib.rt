@@ -9,11 +9,6 @@ ghost use Rattle.state.specs.Check.{isSome, who, legalLog, legalGathered, zeros
 use kinds::Place;
 use kinds::Term;
 
-// The bytes of the head, and of a row of the table.
-const HEAD: usize = 56;
-
-const ROW: usize = 20;
-
 // ---- the table
 
 // n log rows from a place on: entry terms at least 1, never falling, at most the ballot; commands legal.
@@ -77,9 +72,9 @@ fn is_legal_table(s: &[u8]) -> bool
     let h = head::read_head(s);
     let n = h.length;
     let g = h.gathered;
-    let second = HEAD + (n.number() as usize) * ROW;
-    let rest = second + (g.number() as usize) * ROW;
-    if !is_log(s, HEAD, n, h.ballot) {
+    let second = state::HEAD + (n.number() as usize) * kinds::ROW;
+    let rest = second + (g.number() as usize) * kinds::ROW;
+    if !is_log(s, state::HEAD, n, h.ballot) {
         return false;
     }
     if !is_gathered(s, second, g, h.term) {
@@ -114,5 +109,5 @@ pub fn is_kept_legal(s: &[u8]) -> bool
     if !roles::is_kept_head(h) {
         return false;
     }
-    is_log(s, HEAD, h.length, h.ballot)
+    is_log(s, state::HEAD, h.length, h.ballot)
 }

@@ -26,6 +26,7 @@ use Rattle.message.specs.Opening.{Opening}
 use Rattle.message.specs.declared.Body.{Body}
 use Rattle.message.specs.declared.Body.the-variants.{VoteRequest, VoteYes, VoteNo, Append, AppendYes, AppendNo}
 use Rattle.message.specs.declared.Fields.{Fields}
+use Rattle.command.specs.Entry.{Entry}
 
 -- ---- the fields that are read and written, and their numbers, each in its slot
 
@@ -50,6 +51,30 @@ ownIn (AppendNo n) = n .0 ∷ 0 ∷ 0 ∷ 0 ∷ []
 abbrev pub openingOf : Fields → Opening
 openingOf f =
     record { type = typeIn (f .body); numbers = f .term .0 ∷ f .from .0 ∷ f .to .0 ∷ ownIn (f .body) }
+
+-- ---- the message that fields stand for
+
+-- What a body says, with these entries where its type has entries.
+abbrev pub saidWith : Body → List Entry → Said
+saidWith (VoteRequest last ballot) es = vote-request (last .0) (ballot .0)
+saidWith (VoteYes last ballot count) es = vote-yes (last .0) (ballot .0) es
+saidWith VoteNo es = vote-no
+saidWith (Append prev prevterm chosen count) es = append (prev .0) (prevterm .0) (chosen .0) es
+saidWith (AppendYes end) es = append-yes (end .0)
+saidWith (AppendNo n) es = append-no (n .0)
+
+-- How many entries a body has.
+abbrev pub manyIn : Body → ℕ
+manyIn (VoteRequest last ballot) = 0
+manyIn (VoteYes last ballot count) = count
+manyIn VoteNo = 0
+manyIn (Append prev prevterm chosen count) = count
+manyIn (AppendYes end) = 0
+manyIn (AppendNo n) = 0
+
+-- The message of these fields with these entries.
+abbrev pub messageBy : Fields → List Entry → Message
+messageBy f es = record { term = f .term .0; from = f .from .0; to = f .to .0; body = saidWith (f .body) es }
 
 -- ---- the fields of a message; the count is the number of entries
 

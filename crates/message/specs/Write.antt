@@ -4,12 +4,11 @@ use mathlib.Core.Bool.{true}
 use mathlib.Core.List.{List}
 use mathlib.Core.Path.{_≡_}
 use lib.ListN.{length}
-use Rattle.kinds.specs.Sizes.{text-room}
+use Rattle.kinds.specs.Sizes.{text-room, row-size}
 use Rattle.message.specs.Message.{Message}
 use Rattle.message.specs.Legal.{legalMessage}
 use Rattle.message.specs.Fields.{countIn, messageOf}
 use Rattle.message.specs.Answer.{openingOf}
-use Rattle.rows.specs.Rows.{row-size}
 use Rattle.message.specs.Rows.{rowEntries}
 use Rattle.message.specs.declared.Fields.{Fields}
 

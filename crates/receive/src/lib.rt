@@ -24,23 +24,7 @@ use reader::Read;
 use state::Head;
 use step::Caller;
 
-// The roles.
-const CANDIDATE: u8 = 1;
-
-const LEADER: u8 = 2;
-
-// Outcomes (rule R32).
-const DONE: u32 = 0;
-
 const BAD_MESSAGE: u64 = 4;
-
-const NOT_ADDRESSED: u32 = 5;
-
-const STALE: u32 = 6;
-
-const CONTRADICTING: u32 = 7;
-
-const NOTHING_NEW: u32 = 13;
 
 // What stands above an outcome is counted in these.
 const UPPER: u64 = 4294967296;
@@ -110,15 +94,15 @@ fn is_contradicting(h: Head, body: Body) -> bool
             last,
             ballot,
             count: _,
-        } => (h.role == CANDIDATE)
+        } => (h.role == kinds::CANDIDATE)
             & (!(last.number() == h.length.number()) | h.ballot.below(ballot)),
         Body::Append {
             prev: _,
             prevterm: _,
             chosen: _,
             count: _,
-        } => h.role == LEADER,
-        Body::AppendYes { end } => (h.role == LEADER) & h.length.below(end),
+        } => h.role == kinds::LEADER,
+        Body::AppendYes { end } => (h.role == kinds::LEADER) & h.length.below(end),
         Body::VoteRequest { last: _, ballot: _ } => false,
         Body::VoteNo => false,
         Body::AppendNo { length: _ } => false,
@@ -228,7 +212,7 @@ fn told_of(did: Did, idle: u32) -> Told
             bytes: 0,
         },
         Did::Wrote { bytes } => Told {
-            outcome: DONE,
+            outcome: kinds::DONE,
             bytes,
         },
     }
@@ -250,16 +234,16 @@ fn receive_fresh(
 {
     if h.term.below(f.term) {
         step::raise_in(g, h, f.term, state);
-        return told_of(obey(g, state, f, text, at, out), DONE);
+        return told_of(obey(g, state, f, text, at, out), kinds::DONE);
     }
     let body = f.body;
     if is_contradicting(h, body) {
         return Told {
-            outcome: CONTRADICTING,
+            outcome: kinds::CONTRADICTING,
             bytes: 0,
         };
     }
-    told_of(obey(g, state, f, text, at, out), NOTHING_NEW)
+    told_of(obey(g, state, f, text, at, out), kinds::NOTHING_NEW)
 }
 
 // A legal message whose entry lines begin at a place of the text.
@@ -276,14 +260,14 @@ fn receive_message(
 {
     if is_misaddressed(g, f) {
         return Told {
-            outcome: NOT_ADDRESSED,
+            outcome: kinds::NOT_ADDRESSED,
             bytes: 0,
         };
     }
     let h = head::read_head(state);
     if is_stale(h, f) {
         return Told {
-            outcome: STALE,
+            outcome: kinds::STALE,
             bytes: reply_stale(g, state, f, out),
         };
     }

@@ -7,7 +7,7 @@ use lib.ListN.{length, drop}
 use lib.Seq.{sets}
 use Rattle.kinds.specs.declared.Term.{Term}
 use Rattle.message.specs.Walk.{entriesFrom, Lie}
-use Rattle.rows.specs.Rows.{row-size, row, bytesOf}
+use Rattle.rows.specs.Rows.{row, bytesOf}
 use Rattle.state.specs.Image.{logRow}
 use Rattle.rows.proofs.ListLaws.{sets-then}
 use Rattle.rows.proofs.RowLaws.{rowBytes-length}
@@ -15,6 +15,7 @@ use Rattle.rows.specs.declared.Words.{Words}
 use Rattle.rows.specs.Words.{commandIn, rowWords}
 use Rattle.rows.proofs.WordsLaws.{row-words}
 use Rattle.entries.proofs.WalkLaws.{Walked, lie-none}
+use Rattle.kinds.specs.Sizes.{row-size}
 
 -- No entry is left.
 pub put-none : (n to : ℕ) (s l : List ℕ) → Lie n s → n ≤ 0 → sets l to (bytesOf logRow (entriesFrom n s)) ≡ l

@@ -10,13 +10,13 @@ use lib.ListN.{length, take, drop, length-append, length-take, length-map}
 use lib.Seq.{sets}
 use Rattle.kinds.specs.declared.Place.{Place}
 use Rattle.kinds.specs.Of.{place}
-use Rattle.kinds.specs.Sizes.{Who, limit}
+use Rattle.kinds.specs.Sizes.{Who, limit, row-size}
 use Rattle.command.specs.Entry.{Entry}
 use Rattle.message.specs.Walk.{entriesFrom}
 use Rattle.state.specs.declared.Head.{Head}
 use Rattle.state.specs.State.{Kept, Lost, follower, State}
 use Rattle.state.specs.Legal.{legalState}
-use Rattle.rows.specs.Rows.{row-size, bytesOf, Row, entryRow, rowBytes}
+use Rattle.rows.specs.Rows.{bytesOf, Row, entryRow, rowBytes}
 use Rattle.state.specs.Image.{head-size, state-size, logRow, image, stateIn}
 use Rattle.state.specs.Head.{bytesOfHead, headOf}
 use Rattle.state.specs.Table.{rowsOf}

@@ -4,8 +4,9 @@ ghost use mathlib.Core.Path.{_≡_};
 ghost use Prim.Native.Nat.{_+_, _*_, _≤_};
 ghost use lib.ListN.{length, drop};
 ghost use lib.Seq.{sets};
+ghost use Rattle.kinds.specs.Sizes.{row-size};
 ghost use Rattle.message.specs.Walk.{entriesFrom, Lie};
-ghost use Rattle.rows.specs.Rows.{row-size, bytesOf};
+ghost use Rattle.rows.specs.Rows.{bytesOf};
 ghost use Rattle.state.specs.Image.{logRow, image, stateIn};
 ghost use Rattle.rules.specs.Receive.{fits};
 ghost use Rattle.step.specs.Promise.{whoIn, Ready, HearsAppend};
@@ -16,12 +17,6 @@ use kinds::Term;
 use rows::Words;
 use state::Head;
 use step::Caller;
-
-// The bytes of a row of a state's table.
-const ROW: usize = 20;
-
-// The largest term.
-const TERM_MOST: u32 = 4_294_967_295;
 
 // ---- the rows
 
@@ -42,7 +37,7 @@ fn put_entries(state: &mut [u8], row: usize, count: u32, text: &[u8], at: usize)
             a,
             b,
             next,
-        } = entries::next_entry(text, &table, from, 1, TERM_MOST)
+        } = entries::next_entry(text, &table, from, 1, kinds::TERM_MOST)
         else {
             return;
         };
@@ -57,7 +52,7 @@ fn put_entries(state: &mut [u8], row: usize, count: u32, text: &[u8], at: usize)
                 b,
             },
         );
-        to += ROW;
+        to += kinds::ROW;
         from = next;
         left -= 1;
     }

@@ -15,20 +15,21 @@ use Rattle.command.specs.Entry.{Entry}
 use Rattle.command.proofs.WordsLaws.{Bytes}
 use Rattle.command.proofs.CommandLaws.{commandBytes-length}
 use Rattle.state.specs.State.{Kept, reported, reportedAt}
-use Rattle.rows.specs.Rows.{row-size, rowsIn, entryOf}
+use Rattle.rows.specs.Rows.{rowsIn, entryOf}
 use Rattle.state.specs.Image.{head-size, state-size, keptIn, readKept}
 use Rattle.state.specs.Head.{headIn}
 use Rattle.state.specs.Check.{isSome}
 use Rattle.state.proofs.LegalLaws.{legalKept-is}
 use Rattle.rows.proofs.PartLaws.{part-drop}
 use Rattle.state.proofs.ImageLaws.{readKept-sound}
-use Rattle.rules.specs.Outcome.{done, bad-state, short-output, bad-send}
+use Rattle.rules.specs.Outcome.{done, bad-state, short-output, out-of-range}
 use Rattle.rows.specs.declared.Words.{Words}
 use Rattle.rows.specs.Words.{wordsAt, wordsBytes}
 use Rattle.rules.specs.Report.{Report, told, reporting, reportOf, Reports, counting, chosenOf}
 use Rattle.step.proofs.GateLaws.{readKept-some, readKept-none}
 use Rattle.rows.proofs.WordsLaws.{commandIn-at, command-words, duration-below}
 use Rattle.step.proofs.LostLaws.{kept-length, kept-size, kept-within}
+use Rattle.kinds.specs.Sizes.{row-size}
 
 -- Two answers that both satisfy the promise of a report are equal.
 pub reports-unique : {a : Report} {r r′ : ℕ} {out out′ : List ℕ} → Reports a r out → Reports a r′ out′ → (r ≡ r′) × (out ≡ out′)
@@ -74,12 +75,12 @@ module _ (l out : List ℕ) (p : ℕ) where
     unfolding reporting
     answered a e = rw (readKept-some l h, le-ltb (length out) 16 room, e)
 
-    refused : reportedAt (keptIn l) p ≡ none → Reports (reportOf l p out) bad-send out
+    refused : reportedAt (keptIn l) p ≡ none → Reports (reportOf l p out) out-of-range out
     unfolding told
     refused e = rw (answered none e) (record { outcome-is = refl; output-is = refl })
 
     -- Place 0.
-    pub reported-zero : p ≡ 0 → Reports (reportOf l p out) bad-send out
+    pub reported-zero : p ≡ 0 → Reports (reportOf l p out) out-of-range out
     unfolding reportedAt
     reported-zero z = refused (rw z refl)
 
@@ -88,7 +89,7 @@ module _ (l out : List ℕ) (p : ℕ) where
     chosen-is = refl
 
     -- A place past what is chosen.
-    pub reported-past : headIn l .chosen .0 < p → Reports (reportOf l p out) bad-send out
+    pub reported-past : headIn l .chosen .0 < p → Reports (reportOf l p out) out-of-range out
     reported-past above = refused (reportedAt-past (keptIn l) p (omega (arith, chosen-is)))
 
     chosen-within : headIn l .chosen .0 ≤ headIn l .length .0

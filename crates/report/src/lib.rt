@@ -5,35 +5,26 @@ ghost use Rattle.rules.specs.Report.{Reports, reportOf, chosenOf};
 // The bytes of a command.
 const COMMAND: usize = 16;
 
-// Outcomes (rule R32).
-const DONE: u32 = 0;
-
-const BAD_STATE: u32 = 2;
-
-const SHORT_OUTPUT: u32 = 3;
-
-const NOT_REPORTED: u32 = 12;
-
 // The command that a hub reports at a place: its 16 bytes at the start of `out`. A refusal (2: kept parts not legal; 3: too little room; 12: the place is not in
 // 1..chosen) leaves every byte.
 pub fn reported_at(state: &[u8], place: u32, out: &mut [u8]) -> u32
     ensures { λ r. ⌜ Reports (reportOf (now (state .entry)) place (now (out .entry))) r (now (out .exit)) ⌝ }
 {
     if !legal::is_kept_legal(state) {
-        return BAD_STATE;
+        return kinds::BAD_STATE;
     }
     if out.len() < COMMAND {
-        return SHORT_OUTPUT;
+        return kinds::SHORT_OUTPUT;
     }
     if place == 0 {
-        return NOT_REPORTED;
+        return kinds::OUT_OF_RANGE;
     }
     let h = head::read_head(state);
     if h.chosen.number() < place {
-        return NOT_REPORTED;
+        return kinds::OUT_OF_RANGE;
     }
     rows::put_words(out, 0, rows::words_at(state, head::row_at(place - 1) + 4));
-    DONE
+    kinds::DONE
 }
 
 // How many commands a hub reports, times 2^32; or 2 if the kept parts are not legal.
@@ -41,7 +32,7 @@ pub fn chosen_places(state: &[u8]) -> u64
     ensures { λ r. ⌜ r ≡ chosenOf (now (state .entry)) ⌝ }
 {
     if !legal::is_kept_legal(state) {
-        return BAD_STATE as u64;
+        return kinds::BAD_STATE as u64;
     }
     let h = head::read_head(state);
     (h.chosen.number() as u64) * 4_294_967_296

@@ -34,7 +34,7 @@ pub fn is_kept_head(h: Head) -> bool
     let low = b.number();
     let long = n.number();
     (low <= h.term.number())
-        & ((c.number() <= long) & ((long <= state::limit_places()) & ((low != 0) | (long == 0))))
+        & ((c.number() <= long) & ((long <= kinds::places()) & ((low != 0) | (long == 0))))
 }
 
 // Nobody from hub at + 1 on is among the voters.
@@ -135,8 +135,7 @@ fn is_candidate_head(size: u32, own: u32, h: Head) -> bool
     let ps = h.confirmed;
     let rows = (n.number() as u64) + (g.number() as u64);
     b.below(h.term)
-        & ((rows <= (state::limit_places() as u64))
-            & (are_voters(size, own, vs) & none_confirmed(ps, 0)))
+        & ((rows <= (kinds::places() as u64)) & (are_voters(size, own, vs) & none_confirmed(ps, 0)))
 }
 
 // Leader: ballot = term ≥ 1; no voters, nothing gathered; confirmed lengths.

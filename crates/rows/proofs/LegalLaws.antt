@@ -8,11 +8,11 @@ use mathlib.Core.List.{List, [], _∷_, map}
 use lib.Dec.{leb}
 use lib.ListN.{drop}
 use lib.Seq.{drop-drop}
-use Rattle.kinds.specs.Sizes.{between}
+use Rattle.kinds.specs.Sizes.{between, row-size}
 use Rattle.command.specs.Words.{part, wordAt}
 use Rattle.command.specs.Command.{command-size, legalCommand, commandOf}
 use Rattle.command.specs.Entry.{Entry, legalEntries}
-use Rattle.rows.specs.Rows.{row-size, rowOf, entryRow, entryOf, rowsIn, legalRows}
+use Rattle.rows.specs.Rows.{rowOf, entryRow, entryOf, rowsIn, legalRows}
 use Rattle.rows.proofs.BoolLaws.{and-fails}
 use Rattle.rows.proofs.PartLaws.{wordAt-drop, part-drop}
 use Rattle.rows.proofs.RowLaws.{rowsIn-map}

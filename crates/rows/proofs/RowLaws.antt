@@ -9,13 +9,13 @@ use lib.Dec.{leb}
 use lib.ListN.{length, take, drop, length-append, length-drop}
 use lib.Seq.{take-add, drop-drop}
 use Rattle.kinds.specs.Hubs.{all}
-use Rattle.kinds.specs.Sizes.{between, term-most}
+use Rattle.kinds.specs.Sizes.{between, term-most, row-size}
 use Rattle.command.specs.Words.{word, part, wordAt}
 use Rattle.command.specs.Command.{Command, command-size, legalCommand, commandBytes, commandOf}
 use Rattle.command.specs.Entry.{Entry, legalEntries}
 use Rattle.command.proofs.WordsLaws.{Bytes, word-length, wordAt-word, word-wordAt, part-length, part-bytes}
 use Rattle.command.proofs.CommandLaws.{commandBytes-length, commandOf-bytes, commandBytes-of, legal-ranged}
-use Rattle.rows.specs.Rows.{row-size, Row, rowOf, entryRow, entryOf, bytesOf, row, rowBytes, rowsIn}
+use Rattle.rows.specs.Rows.{Row, rowOf, entryRow, entryOf, bytesOf, row, rowBytes, rowsIn}
 use Rattle.rows.proofs.BoolLaws.{and-first, and-second, and-both}
 use Rattle.rows.proofs.ListLaws.{bytesOf-length}
 use Rattle.rows.proofs.PartLaws.{part-front, part-behind, part-split, drop-behind, drop-bytes}

@@ -4,13 +4,10 @@ use Prim.Native.Nat.{ℕ, zero, suc}
 use mathlib.Core.Bool.{Bool, true, cond, _&&_}
 use mathlib.Core.List.{List, [], _∷_, _++_}
 use lib.ListN.{drop}
-use Rattle.kinds.specs.Sizes.{between}
+use Rattle.kinds.specs.Sizes.{between, row-size}
 use Rattle.command.specs.Words.{word, part, wordAt}
 use Rattle.command.specs.Command.{Command, command-size, legalCommand, commandBytes, commandOf}
 use Rattle.command.specs.Entry.{Entry}
-
-abbrev pub row-size : ℕ
-row-size = 20
 
 -- A number and a command.
 pub record Row : Type 0 where

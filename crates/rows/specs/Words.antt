@@ -5,8 +5,8 @@ use lib.Seq.{sets}
 use Rattle.command.specs.Words.{word, wordAt}
 use Rattle.command.specs.Command.{Command}
 use Rattle.command.specs.Answers.{ofWords}
-use Rattle.rows.specs.Rows.{row-size}
 use Rattle.rows.specs.declared.Words.{Words}
+use Rattle.kinds.specs.Sizes.{row-size}
 
 -- The command of four words.
 abbrev pub commandIn : Words → Command

@@ -7,9 +7,6 @@ ghost use lib.Seq.{sets};
 ghost use Rattle.rows.specs.Rows.{rowOf, rowsIn, legalRows};
 ghost use Rattle.rows.specs.Words.{wordsAt, wordsBytes, rowWords, renumbered};
 
-// The bytes of a row.
-const ROW: usize = 20;
-
 // A command by its four words, as they stand in its bytes; motor and kind share the first.
 pub struct Words {
     pub what: u32,
@@ -62,7 +59,7 @@ pub fn renumber(s: &mut [u8], from: usize, n: u32, number: u32)
     let mut left = n;
     while 0 < left {
         command::put32(s, at, number);
-        at += ROW;
+        at += kinds::ROW;
         left -= 1;
     }
 }
@@ -90,7 +87,7 @@ pub fn are_legal(s: &[u8], from: usize, n: u32, rising: bool, low: u32, high: u3
             return false;
         }
         least = least_behind(rising, t, least);
-        at += ROW;
+        at += kinds::ROW;
         left -= 1;
     }
     true

@@ -15,7 +15,7 @@ use Rattle.command.specs.Proposal.{proposable, readProposal}
 use Rattle.message.specs.Legal.{legalTo, legalBody}
 use Rattle.state.specs.State.{Kept, Lost, follower, candidate, leader, State}
 use Rattle.state.specs.Legal.{all, legalKept, legalLost, legalState}
-use Rattle.rules.specs.Outcome.{wrong-role, no-term-left, bad-command, log-full, bad-send}
+use Rattle.rules.specs.Outcome.{wrong-role, no-term-left, bad-command, log-full, out-of-range}
 use Rattle.rules.specs.Events.{isLeader, len, withTerm, leads, started, asks, start, withEntry, proposeLeading, propose, sends, send, restart}
 use Rattle.rules.specs.Theorems.{Grows, Says}
 use Rattle.rows.proofs.BoolLaws.{and-second, and-both, or-first, or-second, cond-either, cond-some}
@@ -199,7 +199,7 @@ module _ (w : Who) (i : IsWho w) where
       let outside = not (isHub (w .size) peer) in
       let itself = eqb peer (w .own) in
       let beyond = ltb (length (k .log)) prev in
-      cond-either (Fair w s) (outside || (itself || beyond)) (λ t. refuses-fair w s bad-send h)
+      cond-either (Fair w s) (outside || (itself || beyond)) (λ t. refuses-fair w s out-of-range h)
       (λ t.
       let hub = not-false (isHub (w .size) peer) (or-first outside (itself || beyond) t) in
       let in-log = ltb-false (length (k .log)) prev (or-second itself beyond (or-second outside (itself || beyond) t)) in

@@ -19,7 +19,7 @@ use Rattle.rules.specs.Outcome.{
   no-term-left,
   bad-command,
   log-full,
-  bad-send,
+  out-of-range,
 }
 
 -- ---- words
@@ -99,7 +99,7 @@ sends w s peer prev =
 unfoldable pub send : Who → State → ℕ → ℕ → Next
 send w s peer prev =
     cond (not (isLeader s)) (refuses s wrong-role)
-    (cond (not (isHub (w .size) peer) || (eqb peer (w .own) || ltb (len s) prev)) (refuses s bad-send)
+    (cond (not (isHub (w .size) peer) || (eqb peer (w .own) || ltb (len s) prev)) (refuses s out-of-range)
     (goes s (some (sends w s peer prev))))
 
 -- ---- Restart: lost parts cleared, follower.

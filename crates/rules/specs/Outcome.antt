@@ -16,7 +16,7 @@ pub use Rattle.kinds.specs.Outcome.{
   no-term-left,
   bad-command,
   log-full,
-  bad-send,
+  out-of-range,
   nothing-new,
 }
 

@@ -1,6 +1,6 @@
 -- A hub reports the commands at places 1 to chosen of its log, and no others (rule R13): what a caller that asks for one is told, and how
 -- many there are. `kritnamon_reported` and `kritnamon_chosen` promise this. Assumes nothing.
-use Prim.Native.Nat.{ℕ, _*_}
+use Prim.Native.Nat.{ℕ}
 use mathlib.Core.Path.{_≡_}
 use mathlib.Core.Bool.{cond}
 use mathlib.Core.List.{List, _++_}
@@ -10,7 +10,8 @@ use lib.ListN.{length, drop}
 use Rattle.command.specs.Command.{Command, command-size, commandBytes}
 use Rattle.state.specs.State.{Kept, reportedAt}
 use Rattle.state.specs.Image.{readKept}
-use Rattle.rules.specs.Outcome.{done, bad-state, short-output, bad-send}
+use Rattle.rules.specs.Outcome.{done, bad-state, short-output, out-of-range}
+use Rattle.kinds.specs.Packed.{packed}
 
 -- What a question comes to: an outcome, and the bytes that it leaves.
 pub record Report : Type 0 where
@@ -19,7 +20,7 @@ pub record Report : Type 0 where
 
 -- A place that is not in 1..chosen is refused with 12. A command takes the first 16 bytes of the output; the rest stays.
 unfoldable pub told : Option Command → List ℕ → Report
-told none out = record { outcome = bad-send; output = out }
+told none out = record { outcome = out-of-range; output = out }
 told (some c) out = record { outcome = done; output = commandBytes c ++ drop command-size out }
 
 -- Kept parts that are not legal are refused first, then too short an output.
@@ -39,7 +40,7 @@ pub record Reports (a : Report) (outcome : ℕ) (output : List ℕ) : Type 0 whe
 -- How many are reported, in the upper half of a number; or outcome 2 in its lower half.
 unfoldable pub counting : Option Kept → ℕ
 counting none = bad-state
-counting (some k) = k .chosen * 4_294_967_296
+counting (some k) = packed done (k .chosen)
 
 abbrev pub chosenOf : List ℕ → ℕ
 chosenOf state = counting (readKept state)

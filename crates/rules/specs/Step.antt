@@ -15,6 +15,7 @@ use Rattle.state.specs.Image.{image, readState, readKept}
 use Rattle.rules.specs.Outcome.{Next, done, not-known, bad-state, short-output, bad-message}
 use Rattle.rules.specs.Events.{start, propose, send, restart}
 use Rattle.rules.specs.Receive.{receive}
+use Rattle.kinds.specs.Event.{start-number, propose-number, send-number, restart-number, receive-number}
 
 -- ---- what comes in, and what goes out
 
@@ -48,10 +49,10 @@ pub data Event : Type 0 where
 -- The numbers of the events.
 unfoldable pub eventOf : ℕ → Option Event
 eventOf n =
-    cond (eqb n 1) (some start-event)
-    (cond (eqb n 2) (some propose-event)
-    (cond (eqb n 3) (some send-event)
-    (cond (eqb n 4) (some restart-event) (cond (eqb n 5) (some receive-event) none))))
+    cond (eqb n start-number) (some start-event)
+    (cond (eqb n propose-number) (some propose-event)
+    (cond (eqb n send-number) (some send-event)
+    (cond (eqb n restart-number) (some restart-event) (cond (eqb n receive-number) (some receive-event) none))))
 
 -- ---- answers
 

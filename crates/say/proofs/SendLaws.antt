@@ -19,7 +19,7 @@ use Rattle.message.specs.Legal.{legalMessage}
 use Rattle.message.specs.declared.Body.the-variants.{Append}
 use Rattle.state.specs.declared.Head.{Head}
 use Rattle.state.specs.Image.{stateIn}
-use Rattle.rules.specs.Outcome.{goes, wrong-role, bad-send}
+use Rattle.rules.specs.Outcome.{goes, wrong-role, out-of-range}
 use Rattle.rules.specs.Events.{termAt, says, sends, send}
 use Rattle.rows.proofs.BoolLaws.{or-second}
 use Rattle.rules.proofs.Fair.{Fair}
@@ -77,9 +77,9 @@ module _ (w : Who) (h : Head) (l : List ℕ) (t : Tested w h l) (peer prev : ℕ
 
   module _ (role : h .role ≡ 2) where
     -- So it is refused.
-    pub send-bad : {out : List ℕ} → bad (h .length .0) ≡ true → Gives (send w (stateIn l) peer prev) l out bad-send l out
+    pub send-bad : {out : List ℕ} → bad (h .length .0) ≡ true → Gives (send w (stateIn l) peer prev) l out out-of-range l out
     unfolding send
-    send-bad b = refused-gives (stateIn l) l bad-send (rw (tested-leader w h l t role, rw (tested-length w h l t) at b)) (λ z. omega arith)
+    send-bad b = refused-gives (stateIn l) l out-of-range (rw (tested-leader w h l t role, rw (tested-length w h l t) at b)) (λ z. omega arith)
 
     -- A peer, and a place of the log.
     module _ (good : bad (h .length .0) ≡ false) where

@@ -11,7 +11,7 @@ use lib.Seq.{sets-eq, drop-drop}
 use borrow.Rule.Slice.PartAt.{part-to-end}
 use Rattle.kinds.specs.declared.Hub.{Hub}
 use Rattle.kinds.specs.declared.Term.{Term}
-use Rattle.kinds.specs.Sizes.{Who, limit, text-room}
+use Rattle.kinds.specs.Sizes.{Who, limit, text-room, row-size}
 use Rattle.command.specs.Words.{wordAt}
 use Rattle.command.specs.Entry.{Entry}
 use Rattle.message.specs.Message.{Message, entriesOf, vote-request, vote-yes, vote-no, append, append-yes, append-no}
@@ -27,7 +27,7 @@ use Rattle.message.proofs.ReadLaws.{text-most}
 use Rattle.text.specs.Wrote.{Wrote}
 use Rattle.state.specs.declared.Head.{Head}
 use Rattle.state.specs.State.{State}
-use Rattle.rows.specs.Rows.{row-size, entryOf, rowsIn}
+use Rattle.rows.specs.Rows.{entryOf, rowsIn}
 use Rattle.state.specs.Image.{head-size, state-size, keptIn, stateIn}
 use Rattle.rows.proofs.RowLaws.{rowsIn-length, rowsIn-drop}
 use Rattle.rules.specs.Events.{says}

@@ -23,11 +23,6 @@ use message::Fields;
 use state::Head;
 use step::Caller;
 
-// The role that starts no election and alone sends.
-const LEADER: u8 = 2;
-// The last term.
-const TERM_MOST: u32 = 0xffff_ffff;
-
 // Outcomes (rule R32).
 const WRONG_ROLE: u64 = 8;
 
@@ -99,10 +94,10 @@ pub fn start_at(g: Caller, state: &mut [u8], out: &mut [u8]) -> u64
     ensures { λ r. ⌜ Gives (start (whoIn g) (stateIn (now (state .entry)))) (now (state .entry)) (now (out .entry)) r (now (state .exit)) (now (out .exit)) ⌝ }
 {
     let h = head::read_head(state);
-    if h.role == LEADER {
+    if h.role == kinds::LEADER {
         return WRONG_ROLE;
     }
-    if h.term.number() == TERM_MOST {
+    if h.term.number() == kinds::TERM_MOST {
         return NO_TERM_LEFT;
     }
     step::start_in(g, h, state);
@@ -155,7 +150,7 @@ pub fn send_at(g: Caller, state: &[u8], peer: u32, prev: u32, out: &mut [u8]) ->
     ensures { λ r. ⌜ Gives (send (whoIn g) (stateIn (now (state .entry))) peer prev) (now (state .entry)) (now (out .entry)) r (now (state .entry)) (now (out .exit)) ⌝ }
 {
     let h = head::read_head(state);
-    if h.role != LEADER {
+    if h.role != kinds::LEADER {
         return WRONG_ROLE;
     }
     if is_bad_send(g, h, peer, prev) {

@@ -12,13 +12,13 @@ use lib.ListN.{length, take, drop, getD, replicate, length-append, length-drop, 
 use lib.Seq.{drop-drop, take-add}
 use Rattle.kinds.specs.declared.Place.{Place}
 use Rattle.kinds.specs.Of.{place, term}
-use Rattle.kinds.specs.Sizes.{Who, hubs-most, majority, limit, term-most}
+use Rattle.kinds.specs.Sizes.{Who, hubs-most, majority, limit, term-most, row-size}
 use Rattle.command.specs.Words.{part, wordAt}
 use Rattle.command.specs.Entry.{legalEntries}
 use Rattle.command.proofs.WordsLaws.{Bytes, part-length, wordAt-below}
 use Rattle.state.specs.State.{Kept, Lost, follower, candidate, leader, State}
 use Rattle.state.specs.Legal.{all, count, legalKept, legalPair, legalCandidate, legalLeader, legalLost, legalState}
-use Rattle.rows.specs.Rows.{row-size, rowsIn, entryOf, rowBytes, entryRow, rowOf}
+use Rattle.rows.specs.Rows.{rowsIn, entryOf, rowBytes, entryRow, rowOf}
 use Rattle.state.specs.Image.{head-size, state-size, roleOf, votersOf, gatheredOf, confirmedOf, flags, image, pairOf, keptIn, wordsIn, lostIn, stateIn, same, readState, readKept}
 use Rattle.state.specs.Head.{headIn, isFlag, headOf, keptHead, isNone, votersIn, confirmedIn, followerHead, candidateHead, leaderHead, roleHead}
 use Rattle.state.specs.Table.{pairRow, rowsOf, table}

@@ -12,13 +12,13 @@ use lib.ListN.{length, drop, getD, replicate, length-append, length-map, replica
 use lib.Seq.{drop-at, drop-drop}
 use Rattle.kinds.specs.declared.Place.{Place}
 use Rattle.kinds.specs.Of.{place, term}
-use Rattle.kinds.specs.Sizes.{Who, hubs-most, limit}
+use Rattle.kinds.specs.Sizes.{Who, hubs-most, limit, row-size}
 use Rattle.command.specs.Command.{command-size, commandBytes}
 use Rattle.command.specs.Words.{word, part, wordAt}
 use Rattle.state.specs.declared.Head.{Head}
 use Rattle.state.specs.State.{Kept, Lost, follower, candidate, leader, State, fresh}
 use Rattle.state.specs.Legal.{all, legalKept, legalLost, legalState}
-use Rattle.rows.specs.Rows.{row-size, bytesOf, rowsIn, entryOf, Row, rowBytes, entryRow}
+use Rattle.rows.specs.Rows.{bytesOf, rowsIn, entryOf, Row, rowBytes, entryRow}
 use Rattle.state.specs.Image.{head-size, state-size, roleOf, votersOf, gatheredOf, confirmedOf, flags, logRow, gatheredRow, headBytes, image, pairOf, keptIn, wordsIn, lostIn, stateIn, same, readState, readKept}
 use Rattle.state.specs.Head.{headIn, bytesOfHead, headOf}
 use Rattle.state.specs.Table.{pairRow, rowsOf, table}

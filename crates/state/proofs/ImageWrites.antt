@@ -8,13 +8,13 @@ use mathlib.Core.List.{List, [], _++_, map, append-assoc, append-nil}
 use mathlib.Core.Option.{some}
 use lib.ListN.{length, take, drop, getD, replicate, length-append, length-drop, length-map, length-replicate, take-append-drop, drop-of-length-le}
 use lib.Seq.{sets, length-take-le, take-length}
-use Rattle.kinds.specs.Sizes.{Who, limit}
+use Rattle.kinds.specs.Sizes.{Who, limit, row-size}
 use Rattle.command.specs.Words.{word, wordAt}
 use Rattle.command.specs.Command.{commandBytes}
 use Rattle.command.proofs.WordsLaws.{Bytes, word-length}
 use Rattle.state.specs.State.{Kept, follower, State}
 use Rattle.state.specs.Legal.{legalKept, legalLost, legalState}
-use Rattle.rows.specs.Rows.{row-size, bytesOf, row, entryOf, Row, rowBytes, entryRow, rowOf}
+use Rattle.rows.specs.Rows.{bytesOf, row, entryOf, Row, rowBytes, entryRow, rowOf}
 use Rattle.state.specs.Image.{head-size, state-size, votersOf, gatheredOf, confirmedOf, image, keptIn, readKept}
 use Rattle.state.specs.Head.{bytesOfHead, headOf}
 use Rattle.state.specs.Table.{rowsOf, table}

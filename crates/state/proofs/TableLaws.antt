@@ -11,11 +11,11 @@ use borrow.Author.Tests.{ltb-true, le-leb}
 use lib.Dec.{leb, ltb}
 use lib.ListN.{length, take, drop, getD, replicate, length-append, length-drop, length-replicate, take-append-drop, replicate-append-replicate, drop-of-length-le}
 use lib.Seq.{sets, sets-eq, drop-drop, length-take-le, drop-cons}
-use Rattle.kinds.specs.Sizes.{limit, term-most}
+use Rattle.kinds.specs.Sizes.{limit, term-most, row-size}
 use Rattle.command.specs.Command.{legalCommand}
 use Rattle.state.specs.State.{Pair}
 use Rattle.state.specs.Legal.{all, legalPair}
-use Rattle.rows.specs.Rows.{row-size, bytesOf, row, Row, rowBytes}
+use Rattle.rows.specs.Rows.{bytesOf, row, Row, rowBytes}
 use Rattle.state.specs.Image.{pairOf}
 use Rattle.state.specs.Table.{pairRow, table}
 use Rattle.rows.proofs.RowLaws.{rowBytes-length, rows-length, rowFits}

@@ -7,11 +7,11 @@ use mathlib.Core.List.{List}
 use mathlib.Core.Option.{Option, none, some}
 use lib.Dec.{eqb}
 use lib.ListN.{length, drop}
-use Rattle.kinds.specs.Sizes.{Who, hubs-most, limit}
+use Rattle.kinds.specs.Sizes.{Who, hubs-most, limit, row-size}
 use Rattle.command.specs.Words.{part}
 use Rattle.command.specs.Entry.{legalEntries}
 use Rattle.state.specs.Legal.{all, legalPair}
-use Rattle.rows.specs.Rows.{row-size, rowsIn, entryOf}
+use Rattle.rows.specs.Rows.{rowsIn, entryOf}
 use Rattle.state.specs.Image.{head-size, state-size, pairOf}
 use Rattle.state.specs.Head.{headIn, isFlag, keptHead, roleHead}
 

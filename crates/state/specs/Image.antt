@@ -6,13 +6,14 @@ use mathlib.Core.List.{List, [], _∷_, _++_, map}
 use mathlib.Core.Option.{Option, none, some}
 use lib.Dec.{eqb}
 use lib.ListN.{length, drop, replicate}
-use Rattle.kinds.specs.Sizes.{Who, hubs-most, limit}
+use Rattle.kinds.specs.Sizes.{Who, hubs-most, limit, row-size}
 use Rattle.command.specs.Words.{word, part, wordAt}
 use Rattle.command.specs.Command.{Command}
 use Rattle.command.specs.Entry.{Entry}
-use Rattle.rows.specs.Rows.{row-size, bytesOf, row, rowsIn, entryOf}
+use Rattle.rows.specs.Rows.{bytesOf, row, rowsIn, entryOf}
 use Rattle.state.specs.State.{Kept, Pair, Lost, follower, candidate, leader, State, reportedAt}
 use Rattle.state.specs.Legal.{legalKept, legalState}
+use Rattle.kinds.specs.Role.{as-follower, as-candidate, as-leader}
 
 -- ---- sizes and places of the layout
 
@@ -25,11 +26,11 @@ state-size = head-size + limit * row-size
 
 -- ---- a state's bytes
 
--- The number of a role: 0 follower, 1 candidate, 2 leader.
+-- The number of a role.
 unfoldable pub roleOf : Lost → ℕ
-roleOf follower = 0
-roleOf (candidate voters gathered) = 1
-roleOf (leader confirmed) = 2
+roleOf follower = as-follower
+roleOf (candidate voters gathered) = as-candidate
+roleOf (leader confirmed) = as-leader
 
 -- What a role does not hold is written as nothing but zeros.
 unfoldable pub votersOf : Lost → List Bool

@@ -2,9 +2,9 @@
 use Prim.Native.Nat.{ℕ, _-_, _*_}
 use mathlib.Core.List.{List, _++_, map}
 use lib.ListN.{length, replicate}
-use Rattle.kinds.specs.Sizes.{limit}
+use Rattle.kinds.specs.Sizes.{limit, row-size}
 use Rattle.state.specs.State.{Pair, State}
-use Rattle.rows.specs.Rows.{row-size, bytesOf, Row, rowBytes, entryRow}
+use Rattle.rows.specs.Rows.{bytesOf, Row, rowBytes, entryRow}
 use Rattle.state.specs.Image.{gatheredOf}
 
 -- The row of a gathered pair.

@@ -1,18 +1,13 @@
-// A hub's state in lent bytes: its limit and size, and its head as a struct by value. What reads and writes the head is the crate `head`, what tests
+// A hub's state in lent bytes: its size, and its head as a struct by value. What reads and writes the head is the crate `head`, what tests
 // bytes the crate `legal`.
 // The layout is docs/LAYOUT.md's: a head of 56 bytes, then a row of 20 bytes for each place of the limit.
 ghost use mathlib.Core.Path.{_≡_};
-ghost use Rattle.kinds.specs.Sizes.{limit};
 ghost use Rattle.state.specs.Image.{state-size};
 use kinds::Place;
 use kinds::Term;
 
-// The bytes of the head, and of a row of the table.
-const HEAD: usize = 56;
-
-const ROW: usize = 20;
-// The log's places. Nothing else knows the number.
-const LIMIT: u32 = 256;
+// The bytes of the head.
+pub const HEAD: usize = 56;
 
 // The head of a state. Log and gathered rows stay in the lent bytes.
 pub struct Head {
@@ -26,16 +21,9 @@ pub struct Head {
     pub confirmed: [Place; 7],
 }
 
-// The one limit of the log's places.
-pub fn limit_places() -> u32
-    ensures { λ r. ⌜ r ≡ limit ⌝ }
-{
-    LIMIT
-}
-
 // How many bytes a state has.
 pub fn state_bytes() -> usize
     ensures { λ r. ⌜ r ≡ state-size ⌝ }
 {
-    HEAD + (limit_places() as usize) * ROW
+    HEAD + (kinds::places() as usize) * kinds::ROW
 }

@@ -7,12 +7,12 @@ use mathlib.Core.List.{List, _∷_, map}
 use borrow.Author.Tests.{eq-eqb, ne-eqb, le-leb, lt-leb}
 use lib.Dec.{leb, eqb}
 use lib.ListN.{length, drop, getD}
-use Rattle.kinds.specs.Sizes.{Who}
+use Rattle.kinds.specs.Sizes.{Who, row-size}
 use Rattle.command.specs.Words.{wordAt}
 use Rattle.command.specs.Entry.{Entry}
 use Rattle.state.specs.declared.Head.{Head}
 use Rattle.state.specs.State.{Kept}
-use Rattle.rows.specs.Rows.{row-size, rowsIn, entryOf}
+use Rattle.rows.specs.Rows.{rowsIn, entryOf}
 use Rattle.state.specs.Image.{head-size, state-size, keptIn, stateIn}
 use Rattle.state.specs.Head.{headIn}
 use Rattle.rows.proofs.PartLaws.{wordAt-drop}

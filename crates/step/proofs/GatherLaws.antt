@@ -7,10 +7,10 @@ use mathlib.Core.List.{List, [], _∷_, _++_, map, append-assoc, append-nil}
 use lib.Dec.{ltb}
 use lib.ListN.{length, length-append, length-map}
 use lib.Seq.{sets}
-use Rattle.kinds.specs.Sizes.{limit}
+use Rattle.kinds.specs.Sizes.{limit, row-size}
 use Rattle.command.specs.Entry.{Entry}
 use Rattle.state.specs.State.{Pair}
-use Rattle.rows.specs.Rows.{row-size, row, Row}
+use Rattle.rows.specs.Rows.{row, Row}
 use Rattle.state.specs.Image.{head-size}
 use Rattle.state.specs.Table.{pairRow, table}
 use Rattle.rules.specs.Receive.{gather}

@@ -6,12 +6,12 @@ use mathlib.Core.List.{List, [], _∷_, _++_, map, map-append, append-assoc, app
 use lib.ListN.{length, getD, replicate, length-append, length-map, length-set}
 use lib.Seq.{sets, getD-append-seam}
 use Rattle.kinds.specs.Of.{place}
-use Rattle.kinds.specs.Sizes.{Who, hubs-most, limit}
+use Rattle.kinds.specs.Sizes.{Who, hubs-most, limit, row-size}
 use Rattle.command.specs.Words.{word}
 use Rattle.command.specs.Entry.{Entry}
 use Rattle.command.proofs.WordsLaws.{word-length}
 use Rattle.state.specs.State.{Kept, Pair, Lost, State}
-use Rattle.rows.specs.Rows.{row-size, Row, rowBytes, entryRow, rowOf}
+use Rattle.rows.specs.Rows.{Row, rowBytes, entryRow, rowOf}
 use Rattle.state.specs.Image.{head-size, roleOf, votersOf, gatheredOf, confirmedOf, image}
 use Rattle.state.specs.Head.{bytesOfHead, headOf}
 use Rattle.state.specs.Table.{pairRow, rowsOf, table}

@@ -9,13 +9,13 @@ use borrow.Author.Tests.{ne-eqb}
 use lib.ListN.{length, take, drop, replicate, length-map}
 use lib.Seq.{sets, take-at}
 use Rattle.kinds.specs.Of.{term}
-use Rattle.kinds.specs.Sizes.{Who, term-most, limit}
+use Rattle.kinds.specs.Sizes.{Who, term-most, limit, row-size}
 use Rattle.command.specs.Words.{wordAt}
 use Rattle.command.proofs.WordsLaws.{Bytes}
 use Rattle.state.specs.declared.Head.{Head}
 use Rattle.state.specs.State.{Kept, Lost, follower, candidate, leader, State}
 use Rattle.state.specs.Legal.{legalState}
-use Rattle.rows.specs.Rows.{row-size, entryOf, Row, entryRow}
+use Rattle.rows.specs.Rows.{entryOf, Row, entryRow}
 use Rattle.state.specs.Image.{head-size, state-size, gatheredOf, votersOf, confirmedOf, roleOf, image, keptIn, stateIn, readKept}
 use Rattle.state.specs.Head.{headIn, bytesOfHead, headOf}
 use Rattle.state.specs.Table.{pairRow, rowsOf}

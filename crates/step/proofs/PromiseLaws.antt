@@ -10,11 +10,11 @@ use borrow.Author.Tests.{ne-eqb}
 use lib.ListN.{length, take, drop, replicate}
 use lib.Seq.{sets}
 use Rattle.kinds.specs.Of.{place}
-use Rattle.kinds.specs.Sizes.{Who, limit}
+use Rattle.kinds.specs.Sizes.{Who, limit, row-size}
 use Rattle.state.specs.declared.Head.{Head}
 use Rattle.state.specs.State.{State}
 use Rattle.state.specs.Legal.{legalState}
-use Rattle.rows.specs.Rows.{row-size, bytesOf, Row, rowBytes}
+use Rattle.rows.specs.Rows.{bytesOf, Row, rowBytes}
 use Rattle.state.specs.Image.{head-size, state-size, roleOf, gatheredOf, confirmedOf, image, stateIn}
 use Rattle.state.specs.Head.{headIn, bytesOfHead, headOf}
 use Rattle.state.specs.Table.{rowsOf}

@@ -8,7 +8,7 @@ use mathlib.Core.Option.{Option, none, some}
 use borrow.Author.Tests.{le-leb, lt-leb}
 use lib.ListN.{length, take, drop, length-map, drop-of-length-le}
 use lib.Seq.{sets, take-all}
-use Rattle.kinds.specs.Sizes.{Who, limit}
+use Rattle.kinds.specs.Sizes.{Who, limit, row-size}
 use Rattle.command.specs.Command.{Command, commandOf}
 use Rattle.command.specs.Proposal.{proposable, readProposal}
 use Rattle.command.specs.Answers.{isCommand}
@@ -17,7 +17,7 @@ use Rattle.command.proofs.AnswersLaws.{isCommand-length}
 use Rattle.state.specs.declared.Head.{Head}
 use Rattle.state.specs.State.{Kept, Lost, follower, candidate, leader, State}
 use Rattle.state.specs.Legal.{legalState}
-use Rattle.rows.specs.Rows.{row-size, bytesOf, Row, rowBytes, entryRow}
+use Rattle.rows.specs.Rows.{bytesOf, Row, rowBytes, entryRow}
 use Rattle.state.specs.Image.{head-size, roleOf, gatheredOf, confirmedOf, image, stateIn}
 use Rattle.state.specs.Head.{headIn, bytesOfHead, headOf}
 use Rattle.state.specs.Table.{rowsOf}

@@ -5,11 +5,11 @@ use mathlib.Core.Path.{_≡_, refl, sym, _∙_, ap}
 use mathlib.Core.List.{List, [], _∷_, _++_, append-assoc, append-nil}
 use lib.ListN.{length, take, drop, getD, length-append, drop-of-length-le}
 use lib.Seq.{sets, take-at, take-length, drop-at, getD-append-seam}
-use Rattle.kinds.specs.Sizes.{limit}
+use Rattle.kinds.specs.Sizes.{limit, row-size}
 use Rattle.command.specs.Words.{word, wordAt}
 use Rattle.command.specs.Command.{commandBytes}
 use Rattle.command.proofs.WordsLaws.{wordAt-word}
-use Rattle.rows.specs.Rows.{row-size, bytesOf, row, Row, rowBytes}
+use Rattle.rows.specs.Rows.{bytesOf, row, Row, rowBytes}
 use Rattle.state.specs.Image.{head-size}
 use Rattle.state.specs.Table.{table}
 use Rattle.rows.proofs.ListLaws.{sets-skip}

@@ -7,7 +7,8 @@ use lib.Dec.{ltb}
 use lib.Seq.{sets}
 use Rattle.command.specs.Words.{wordAt}
 use Rattle.command.specs.Entry.{Entry}
-use Rattle.rows.specs.Rows.{row-size, row}
+use Rattle.rows.specs.Rows.{row}
+use Rattle.kinds.specs.Sizes.{row-size}
 
 -- The bytes after gathering these entries of this ballot into the rows from a place on, of which so many are held.
 unfoldable pub gatheredInto : List ℕ → ℕ → ℕ → ℕ → List Entry → List ℕ

@@ -7,6 +7,7 @@ use Rattle.kinds.specs.declared.Place.{Place}
 use Rattle.kinds.specs.Of.{place, term}
 use Rattle.kinds.specs.Sizes.{hubs-most}
 use Rattle.state.specs.declared.Head.{Head}
+use Rattle.kinds.specs.Role.{as-follower, as-candidate, as-leader}
 
 -- A leader with one entry more; own confirmed length follows.
 unfoldable pub grown : Head → ℕ → Head
@@ -31,7 +32,7 @@ standing h own =
       chosen = h .chosen;
       length = h .length;
       gathered = place 0;
-      role = 1;
+      role = as-candidate;
       voters = set (replicate hubs-most false) (own - 1) true;
       confirmed = replicate hubs-most (place 0);
     }
@@ -45,7 +46,7 @@ following h t =
       chosen = h .chosen;
       length = h .length;
       gathered = place 0;
-      role = 0;
+      role = as-follower;
       voters = replicate hubs-most false;
       confirmed = replicate hubs-most (place 0);
     }
@@ -73,7 +74,7 @@ leading h own n =
       chosen = h .chosen;
       length = place (h .length .0 + n);
       gathered = place 0;
-      role = 2;
+      role = as-leader;
       voters = replicate hubs-most false;
       confirmed = set (replicate hubs-most (place 0)) (own - 1) (place (h .length .0 + n));
     }

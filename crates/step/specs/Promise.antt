@@ -1,5 +1,5 @@
 -- What is promised of a call of the step, and of its parts: what is returned, and what the lent bytes hold then. Assumes nothing.
-use Prim.Native.Nat.{ℕ, _+_, _*_, _≤_, _<_}
+use Prim.Native.Nat.{ℕ, _≤_, _<_}
 use mathlib.Core.Path.{_≡_}
 use mathlib.Core.Bool.{Bool, true, false, cond}
 use mathlib.Core.List.{List}
@@ -18,6 +18,8 @@ use Rattle.rules.specs.Outcome.{Next, done}
 use Rattle.rules.specs.Receive.{Effect, idle, effect, contradicts}
 use Rattle.rules.specs.Step.{Call, Answer, over, written}
 use Rattle.step.specs.declared.Caller.{Caller}
+use Rattle.kinds.specs.Role.{as-leader}
+use Rattle.kinds.specs.Packed.{packed}
 
 -- The group's size and the own number, as the code has them.
 abbrev pub whoIn : Caller → Who
@@ -40,7 +42,7 @@ call n own event a b state input output =
 
 -- One number is returned: the outcome in its lower half, the bytes written in its upper half. The lent bytes are as the answer has them.
 pub record Answers (a : Answer) (r : ℕ) (state output : List ℕ) : Type 0 where
-  pub returned : r ≡ a .outcome + a .wrote * 4_294_967_296
+  pub returned : r ≡ packed (a .outcome) (a .wrote)
   pub state-left : state ≡ a .state
   pub output-left : output ≡ a .output
 
@@ -56,7 +58,7 @@ pub record Ready (w : Who) (l : List ℕ) : Type 0 where
 pub record Adds (w : Who) (h : Head) (l command : List ℕ) : Type 0 where
   pub ready : Ready w l
   pub head : h ≡ headIn l
-  pub role : h .role ≡ 2
+  pub role : h .role ≡ as-leader
   pub room : h .length .0 < limit
   pub legal : isCommand command ≡ true
 
@@ -64,7 +66,7 @@ pub record Adds (w : Who) (h : Head) (l command : List ℕ) : Type 0 where
 pub record Starts (w : Who) (h : Head) (l : List ℕ) : Type 0 where
   pub ready : Ready w l
   pub head : h ≡ headIn l
-  pub role : h .role ≡ 2 → ⊥
+  pub role : h .role ≡ as-leader → ⊥
   pub low : h .term .0 < term-most
 
 -- What holds where a hub becomes a follower of its term or of a higher one.
@@ -80,7 +82,7 @@ leftBy l n = cond (eqb (n .outcome) done) (image (n .state)) l
 
 -- What an event that may write a message returns and leaves.
 pub record Gives (n : Next) (l out : List ℕ) (r : ℕ) (l′ out′ : List ℕ) : Type 0 where
-  pub returned : r ≡ n .outcome + length (written (n .message)) * 4_294_967_296
+  pub returned : r ≡ packed (n .outcome) (length (written (n .message)))
   pub state-left : l′ ≡ leftBy l n
   pub output-left : out′ ≡ over (written (n .message)) out
 

@@ -9,9 +9,8 @@ ghost use lib.Dec.{ltb};
 ghost use lib.ListN.{length, replicate, getD, set};
 ghost use lib.Seq.{sets};
 ghost use Rattle.kinds.specs.Of.{place, term};
-ghost use Rattle.kinds.specs.Sizes.{limit, text-room};
+ghost use Rattle.kinds.specs.Sizes.{limit, text-room, row-size};
 ghost use Rattle.command.specs.Proposal.{readProposal};
-ghost use Rattle.rows.specs.Rows.{row-size};
 ghost use Rattle.state.specs.Image.{head-size, state-size, image, keptIn, stateIn, readKept};
 ghost use Rattle.state.specs.Check.{isSome};
 ghost use Rattle.rules.specs.Events.{termAt, started, propose, restart};
@@ -28,31 +27,6 @@ use state::Head;
 
 // The least bytes of an output.
 const OUTPUT: usize = 16_384;
-
-// The roles.
-const FOLLOWER: u8 = 0;
-
-const CANDIDATE: u8 = 1;
-
-const LEADER: u8 = 2;
-
-// The event that checks the kept parts alone.
-const RESTART: u32 = 4;
-
-// Outcomes (rule R32).
-const DONE: u32 = 0;
-
-const NOT_KNOWN: u32 = 1;
-
-const BAD_STATE: u32 = 2;
-
-const SHORT_OUTPUT: u32 = 3;
-
-const WRONG_ROLE: u32 = 8;
-
-const BAD_COMMAND: u32 = 10;
-
-const LOG_FULL: u32 = 11;
 
 // Who is called: the size of its group, and its own number. They come with every call.
 pub struct Caller {
@@ -85,7 +59,7 @@ pub fn follow(h: Head, t: Term) -> Head
     let mut next = h;
     next.term = t;
     next.gathered = Place::of(0);
-    next.role = FOLLOWER;
+    next.role = kinds::FOLLOWER;
     next.voters = nobody;
     next.confirmed = nothing;
     next
@@ -100,7 +74,7 @@ fn stand(h: Head, own: Hub) -> Head
     let mut itself = [false; 7];
     itself[i] = true;
     let mut next = follow(h, Term::of(h.term.number() + 1));
-    next.role = CANDIDATE;
+    next.role = kinds::CANDIDATE;
     next.voters = itself;
     next
 }
@@ -129,7 +103,7 @@ pub fn lead(h: Head, own: Hub, n: u32) -> Head
     let mut next = follow(h, t);
     next.ballot = t;
     next.length = long;
-    next.role = LEADER;
+    next.role = kinds::LEADER;
     next.confirmed[i] = long;
     next
 }
@@ -162,7 +136,7 @@ fn is_known(g: Caller, event: u32) -> bool
 fn is_fit(g: Caller, event: u32, state: &[u8]) -> bool
     ensures { λ r. ⌜ r ≡ isFit (whoIn g) event (now (state .entry)) ⌝ }
 {
-    if event == RESTART {
+    if event == kinds::RESTART {
         return legal::is_kept_legal(state);
     }
     legal::is_legal(g.size, g.own.number(), state)
@@ -173,15 +147,15 @@ pub fn refusal_before(g: Caller, event: u32, state: &[u8], out: &[u8]) -> u32
     ensures { λ r. ⌜ r ≡ gate (whoIn g) event (now (state .entry)) (now (out .entry)) ⌝ }
 {
     if !is_known(g, event) {
-        return NOT_KNOWN;
+        return kinds::NOT_KNOWN;
     }
     if !is_fit(g, event, state) {
-        return BAD_STATE;
+        return kinds::BAD_STATE;
     }
     if out.len() < OUTPUT {
-        return SHORT_OUTPUT;
+        return kinds::SHORT_OUTPUT;
     }
-    DONE
+    kinds::DONE
 }
 
 // ---- changes of the state that several events make
@@ -254,17 +228,17 @@ pub fn propose_at(g: Caller, state: &mut [u8], command: &[u8]) -> u32
     ensures { λ r. ⌜ Quiet (propose (whoIn g) (stateIn (now (state .entry))) (readProposal (now (command .entry)))) (now (state .entry)) r (now (state .exit)) ⌝ }
 {
     let h = head::read_head(state);
-    if h.role != LEADER {
-        return WRONG_ROLE;
+    if h.role != kinds::LEADER {
+        return kinds::WRONG_ROLE;
     }
     if !command::is_command(command) {
-        return BAD_COMMAND;
+        return kinds::BAD_COMMAND;
     }
-    if state::limit_places() <= h.length.number() {
-        return LOG_FULL;
+    if kinds::places() <= h.length.number() {
+        return kinds::LOG_FULL;
     }
     add_entry(g, h, state, command);
-    DONE
+    kinds::DONE
 }
 
 // ---- the largest place confirmed by a majority
@@ -291,7 +265,7 @@ fn majority_place(n: u32, confirmed: [Place; 7]) -> Place
     requires { ⌜ n ≤ 7 ⌝ }
     ensures { λ r. ⌜ r ≡ place (majorityPlace n (map (λ q. q .0) confirmed)) ⌝ }
 {
-    let mut p = state::limit_places();
+    let mut p = kinds::places();
     while 0 < p {
         if is_confirmed(n, confirmed, Place::of(p)) {
             return Place::of(p);
@@ -341,7 +315,7 @@ pub fn hear_end(g: Caller, state: &mut [u8], from: Hub, end: Place) -> bool
     ensures { λ r. ⌜ Ruled (heardEnd (whoIn g) (stateIn (now (state .entry))) (from .0) (end .0)) (now (state .entry)) r (now (state .exit)) ⌝ }
 {
     let h = head::read_head(state);
-    if h.role != LEADER {
+    if h.role != kinds::LEADER {
         return false;
     }
     if !is_more(h, from, end) {

@@ -8,12 +8,12 @@ use Rattle.message.specs.Message.{Body as Said}
 use Rattle.message.specs.Legal.{legalTo, legalBody, legalMessage}
 use Rattle.message.specs.Fields.{countIn, bodyOf, messageOf}
 use Rattle.message.specs.Answer.{typeIn, ownIn}
-use Rattle.rows.specs.Rows.{row-size}
 use Rattle.message.specs.Rows.{rowEntries}
 use Rattle.message.specs.Write.{countOf, messageWith}
 use Rattle.message.specs.declared.Body.{Body}
 use Rattle.message.specs.declared.Fields.{Fields}
 use Rattle.writer.specs.Written.{wholly}
+use Rattle.kinds.specs.Sizes.{row-size}
 
 -- ---- the tests of each type
 

@@ -12,13 +12,13 @@ use lib.Dec.{ltb, eqb}
 use lib.ListN.{length, take, drop}
 use lib.Seq.{sets-eq, take-at}
 use Rattle.kinds.specs.Outcome.{done}
-use Rattle.kinds.specs.Sizes.{text-room}
+use Rattle.kinds.specs.Sizes.{text-room, row-size}
 use Rattle.text.specs.Wrote.{Wrote}
 use Rattle.command.proofs.Tests.{by-test, both}
 use Rattle.message.specs.Legal.{legalMessage}
 use Rattle.message.specs.Answer.{fieldsOf}
 use Rattle.entries.specs.Span.{spanOf}
-use Rattle.rows.specs.Rows.{row-size, entryOf}
+use Rattle.rows.specs.Rows.{entryOf}
 use Rattle.rows.proofs.RowLaws.{rowsIn-length}
 use Rattle.message.specs.Rows.{rowEntries}
 use Rattle.message.specs.Text.{text, read}

@@ -7,9 +7,8 @@ use mathlib.Core.Path.{_≡_}
 use lib.Dec.{ltb, eqb}
 use lib.ListN.{length, drop}
 use Rattle.kinds.specs.Outcome.{done, short-output, bad-message}
-use Rattle.kinds.specs.Sizes.{between, hubs-most, term-most, text-room}
+use Rattle.kinds.specs.Sizes.{between, hubs-most, term-most, text-room, row-size}
 use Rattle.message.specs.Legal.{legalMessage}
-use Rattle.rows.specs.Rows.{row-size}
 use Rattle.message.specs.Text.{text}
 use Rattle.message.specs.Write.{countOf, messageWith}
 use Rattle.message.specs.declared.Fields.{Fields}

@@ -4,12 +4,11 @@ ghost use mathlib.Core.Path.{_≡_};
 ghost use Prim.Native.Nat.{_+_, _*_, _≤_};
 ghost use lib.Dec.{leb};
 ghost use lib.ListN.{length};
-ghost use Rattle.kinds.specs.Sizes.{between, hubs-most, limit};
+ghost use Rattle.kinds.specs.Sizes.{between, hubs-most, limit, row-size};
 ghost use Rattle.text.specs.Wrote.{Wrote};
 ghost use Rattle.command.specs.Entry.{legalEntries};
 ghost use Rattle.message.specs.Message.{vote-request, vote-yes, append};
 ghost use Rattle.message.specs.Legal.{legalBody, legalMessage};
-ghost use Rattle.rows.specs.Rows.{row-size};
 ghost use Rattle.message.specs.Rows.{rowEntries};
 ghost use Rattle.message.specs.Text.{text};
 ghost use Rattle.message.specs.Write.{countOf, messageWith, Puts};
@@ -24,12 +23,6 @@ use message::Fields;
 
 // The most places that a log has.
 const LIMIT: u32 = 256;
-// The greatest hub number of any group.
-const HUBS: u32 = 7;
-// The greatest term.
-const TERM_MOST: u32 = 0xffff_ffff;
-// The bytes of a row.
-const ROW: usize = 20;
 // The least bytes of an output.
 const OUTPUT: usize = 16_384;
 
@@ -195,7 +188,7 @@ fn is_hub(h: Hub) -> bool
     ensures { λ r. ⌜ r ≡ between 1 hubs-most (h .0) ⌝ }
 {
     let n = h.number();
-    (1 <= n) & (n <= HUBS)
+    (1 <= n) & (n <= kinds::HUBS)
 }
 
 fn is_place(p: Place) -> bool
@@ -256,7 +249,7 @@ fn is_whole(f: Fields, to: bool, own: bool) -> bool
     ensures { λ r. ⌜ r ≡ wholly f to own ⌝ }
 {
     let t = f.term.number();
-    ((1 <= t) & (t <= TERM_MOST)) & (is_hub(f.from) & (to & own))
+    ((1 <= t) & (t <= kinds::TERM_MOST)) & (is_hub(f.from) & (to & own))
 }
 
 // Whether the message of these fields and rows is legal.
@@ -302,7 +295,7 @@ pub fn write_message(f: Fields, rows: &[u8], out: &mut [u8]) -> Write
         return Write::Short;
     }
     let count = entries::span_of(f).count;
-    if rows.len() != (count as usize) * ROW {
+    if rows.len() != (count as usize) * kinds::ROW {
         return Write::Illegal;
     }
     if !is_legal(f, rows) {

@@ -7,12 +7,13 @@ use lib.ListN.{length, drop}
 use lib.Seq.{sets}
 use borrow.Author.Needs.{needs}
 use Rattle.message.specs.Walk.{entriesFrom, Lie}
-use Rattle.rows.specs.Rows.{row-size, bytesOf}
+use Rattle.rows.specs.Rows.{bytesOf}
 use Rattle.state.specs.Image.{logRow}
 use Rattle.entries.proofs.WalkLaws.{lie-on, lie-next}
 use Rattle.replace.proofs.EntriesLaws.{put-none, put-next}
 use Rattle.replace.proofs.put_entries.Statement.{statement}
 use Rattle.replace.proofs.put_entries.Tie as tie
+use Rattle.kinds.specs.Sizes.{row-size}
 
 abbrev Inv-loop : tie.InvT-loop
 Inv-loop state₀ row count text at table to₀ from₀ left₀ state to from left =

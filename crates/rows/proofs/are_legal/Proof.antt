@@ -6,10 +6,11 @@ use mathlib.Core.Path.{_≡_, refl, sym, _∙_}
 use borrow.Author.Needs.{needs}
 use borrow.Author.Tests.{not-true, not-false}
 use lib.ListN.{length, drop}
-use Rattle.rows.specs.Rows.{row-size, rowOf, rowsIn, legalRows}
+use Rattle.rows.specs.Rows.{rowOf, rowsIn, legalRows}
 use Rattle.rows.proofs.LegalLaws.{row-stops, row-goes, rows-end}
 use Rattle.rows.proofs.are_legal.Statement.{statement}
 use Rattle.rows.proofs.are_legal.Tie as tie
+use Rattle.kinds.specs.Sizes.{row-size}
 
 abbrev Inv-loop : tie.InvT-loop
 Inv-loop s from n rising low high least₀ at₀ left₀ least at left =

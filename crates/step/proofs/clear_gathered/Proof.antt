@@ -3,11 +3,11 @@ use Prim.Native.Nat.{_+_, _-_, _*_}
 use mathlib.Core.Path.{_≡_, _∙_}
 use native.Mathlib.Omega.{arith}
 use borrow.Author.Needs.{needs}
-use Rattle.rows.specs.Rows.{row-size}
 use Rattle.state.specs.Image.{head-size, state-size}
 use Rattle.state.proofs.LegalLaws.{limit-fits}
 use Rattle.step.proofs.clear_gathered.Statement.{statement}
 use Rattle.step.proofs.clear_gathered.Tie as tie
+use Rattle.kinds.specs.Sizes.{row-size}
 
 -- The rows' number does not wrap.
 rows-fit : tie.Need-add-row-at

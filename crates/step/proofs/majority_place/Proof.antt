@@ -20,7 +20,7 @@ abbrev μ-loop : tie.MeasureT-loop
 -- All places are left.
 begins : tie.Need-loop-holds Inv-loop μ-loop
 unfolding majorityPlace
-begins c = rw (c .limit-places .ensures)
+begins c = rw (c .places .ensures)
 
 -- It is found.
 found : tie.Need-returns Inv-loop μ-loop

@@ -24,7 +24,7 @@ no-command c = proposed-bad _ _ (c .before .before .before .before .before .befo
 full : tie.Need-returns-3
 full c =
     proposed-full _ _ (c .before .before .before .before .before .before .before .before .before .before .before .pre) _ (c .before .before .before .before .before .before .before .read-head .ensures) (c .before .before .before .before .before .if1 .left) (sym (c .before .before .before .before .is-command .ensures) ∙ not-false _ (c .before .before .before .if2 .left))
-    (omega (arith, c .before .number .ensures, c .before .before .limit-places .ensures, c .if3 .taken))
+    (omega (arith, c .before .number .ensures, c .before .before .places .ensures, c .if3 .taken))
 
 -- What is needed to add it.
 may-add : tie.Need-add-entry-requires
@@ -33,7 +33,7 @@ may-add c κs =
       ready = c .before .before .before .before .before .before .before .before .before .before .before .before .pre;
       head = c .before .before .before .before .before .before .before .before .read-head .ensures;
       role = c .before .before .before .before .before .before .if1 .left;
-      room = omega (arith, c .before .before .number .ensures, c .before .before .before .limit-places .ensures, c .before .if3 .left);
+      room = omega (arith, c .before .before .number .ensures, c .before .before .before .places .ensures, c .before .if3 .left);
       legal = sym (c .before .before .before .before .before .is-command .ensures) ∙ not-false _ (c .before .before .before .before .if2 .left);
     }
 
@@ -41,7 +41,7 @@ may-add c κs =
 added : tie.Need-returns-4
 added c =
     proposed-done _ _ (c .before .before .before .before .before .before .before .before .before .before .before .before .before .before .before .pre) _ (c .before .before .before .before .before .before .before .before .before .before .before .read-head .ensures) (c .before .before .before .before .before .before .before .before .before .if1 .left) (sym (c .before .before .before .before .before .before .before .before .is-command .ensures) ∙ not-false _ (c .before .before .before .before .before .before .before .if2 .left))
-    (omega (arith, c .before .before .before .before .before .number .ensures, c .before .before .before .before .before .before .limit-places .ensures, c .before .before .before .before .if3 .left)) (c .before .before .add-entry .ensures)
+    (omega (arith, c .before .before .before .before .before .number .ensures, c .before .before .before .before .before .before .places .ensures, c .before .before .before .before .if3 .left)) (c .before .before .add-entry .ensures)
 
 pub propose-at-spec : {M : Type 1} → statement M
 propose-at-spec =

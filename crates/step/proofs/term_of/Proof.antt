@@ -5,11 +5,11 @@ use native.Mathlib.Omega.{arith}
 use borrow.Author.Needs.{needs}
 use Rattle.kinds.specs.Of.{term}
 use Rattle.command.specs.Words.{wordAt}
-use Rattle.rows.specs.Rows.{row-size}
 use Rattle.state.specs.Image.{head-size}
 use Rattle.step.proofs.AppendLaws.{tested-inside, tested-at}
 use Rattle.step.proofs.term_of.Statement.{statement}
 use Rattle.step.proofs.term_of.Tie as tie
+use Rattle.kinds.specs.Sizes.{row-size}
 
 -- The row lies within the bytes.
 inside : tie.Need-get32-requires
