@@ -22,9 +22,9 @@ use Rattle.state.proofs.HeadLaws.{bytesOfHead-length}
 use Rattle.state.proofs.ImageLaws.{image-is}
 use Rattle.rules.specs.Events.{leads}
 use Rattle.rules.specs.Receive.{joined, counted}
-use Rattle.step.specs.Heads.{leading}
+use Rattle.promise.specs.Heads.{leading}
 use Rattle.rows.specs.Words.{renumbered}
-use Rattle.step.proofs.LeadLaws.{leading-head, lead-written}
+use Rattle.gather.proofs.LeadLaws.{leading-head, lead-written}
 use Rattle.gather.specs.Yes.{withVoter, countedInto}
 
 -- ---- by what the code tests

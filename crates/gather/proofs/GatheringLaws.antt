@@ -23,7 +23,7 @@ use Rattle.entries.proofs.WalkLaws.{stood-on, stood-at}
 use Rattle.rows.specs.Rows.{row}
 use Rattle.rows.specs.declared.Words.{Words}
 use Rattle.rows.specs.Words.{rowWords}
-use Rattle.step.specs.Gather.{gatheredInto}
+use Rattle.gather.specs.Gather.{gatheredInto}
 use Rattle.rows.proofs.WordsLaws.{row-words}
 use Rattle.gather.specs.Yes.{rowGathered}
 

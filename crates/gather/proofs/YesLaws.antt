@@ -27,12 +27,12 @@ use Rattle.rows.proofs.BoolLaws.{and-first, and-second, or-first}
 use Rattle.state.proofs.LegalLaws.{legalCandidate-is, legalState-kept, legalState-lost}
 use Rattle.rules.proofs.MessageLaws.{IsYes, yes-is}
 use Rattle.rules.proofs.GatherLaws.{gather-length}
-use Rattle.step.specs.Promise.{Ready, Ruled}
-use Rattle.step.specs.Gather.{gatheredInto}
-use Rattle.step.proofs.PromiseLaws.{ready-image, ready-legal, ready-size, ready-head, ready-role, ready-length, ready-gathered, ready-who}
-use Rattle.step.proofs.LostLaws.{rows-within}
-use Rattle.step.proofs.EndLaws.{idle-ruled, effect-ruled}
-use Rattle.step.proofs.GatherLaws.{Small, none-there, one-more, gathered-table}
+use Rattle.promise.specs.Promise.{Ready, Ruled}
+use Rattle.gather.specs.Gather.{gatheredInto}
+use Rattle.promise.proofs.PromiseLaws.{ready-image, ready-legal, ready-size, ready-head, ready-role, ready-length, ready-gathered, ready-who}
+use Rattle.promise.proofs.LostLaws.{rows-within}
+use Rattle.promise.proofs.PromiseLaws.{idle-ruled, effect-ruled}
+use Rattle.gather.proofs.GatherLaws.{Small, none-there, one-more, gathered-table}
 use Rattle.gather.specs.Yes.{Hears, Counts, withVoter, countedInto}
 use Rattle.gather.proofs.CountedLaws.{counted-written, voter-head}
 

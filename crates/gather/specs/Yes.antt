@@ -13,8 +13,8 @@ use Rattle.state.specs.declared.Head.{Head}
 use Rattle.state.specs.Legal.{count}
 use Rattle.state.specs.Image.{head-size, state-size}
 use Rattle.state.specs.Head.{bytesOfHead}
-use Rattle.step.specs.Promise.{HearsYes}
-use Rattle.step.specs.Heads.{leading}
+use Rattle.promise.specs.Promise.{HearsYes}
+use Rattle.promise.specs.Heads.{leading}
 use Rattle.rows.specs.Words.{renumbered}
 
 -- What holds where a vote-yes is heard, with whatever last it came.

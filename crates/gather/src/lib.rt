@@ -7,17 +7,17 @@ ghost use Rattle.kinds.specs.Sizes.{row-size};
 ghost use Rattle.message.specs.Walk.{entriesFrom, Lie};
 ghost use Rattle.state.specs.Image.{stateIn};
 ghost use Rattle.rules.specs.Receive.{heardYes};
-ghost use Rattle.step.specs.Promise.{whoIn, Ruled};
+ghost use Rattle.promise.specs.Promise.{whoIn, Ruled};
 ghost use Rattle.rows.specs.Words.{rowWords};
-ghost use Rattle.step.specs.Gather.{gatheredInto};
+ghost use Rattle.gather.specs.Gather.{gatheredInto};
 ghost use Rattle.gather.specs.Yes.{Hears, Counts, rowGathered, withVoter, countedInto};
 use entries::EntryAt;
 use kinds::Hub;
 use kinds::Place;
 use kinds::Term;
+use promise::Caller;
 use rows::Words;
 use state::Head;
-use step::Caller;
 
 // ---- the entries
 
@@ -96,7 +96,7 @@ fn add_voter(h: Head, from: Hub, count: u32) -> Head
     let i = (from.number() - 1) as usize;
     let mut next = h;
     next.voters[i] = true;
-    next.gathered = step::greater(h.gathered, Place::of(count));
+    next.gathered = turns::greater(h.gathered, Place::of(count));
     next
 }
 
@@ -112,7 +112,7 @@ fn count_votes(g: Caller, h: Head, state: &mut [u8])
     }
     let n = h.gathered.number();
     rows::renumber(state, head::row_at(h.length.number()), n, h.term.number());
-    head::write_head(state, step::lead(h, g.own, n));
+    head::write_head(state, turns::lead(h, g.own, n));
 }
 
 // ---- vote-yes

@@ -5,7 +5,7 @@ use mathlib.Core.List.{List}
 use Rattle.kinds.specs.declared.Hub.{Hub}
 use Rattle.kinds.specs.Of.{hub}
 use Rattle.rules.specs.Step.{stepOf}
-use Rattle.step.specs.Promise.{Answers, call}
+use Rattle.promise.specs.Promise.{Answers, call}
 
 pub own-is :
     (n own event a b : ℕ) (l input out : List ℕ) (h : Hub) → h ≡ hub own → {r : ℕ} {l′ out′ : List ℕ}

@@ -8,8 +8,8 @@ ghost use Rattle.command.specs.Answers.{Answers, written, told, commandWith};
 ghost use Rattle.kinds.specs.Sizes.{limit, text-room};
 ghost use Rattle.state.specs.Image.{state-size};
 ghost use Rattle.rules.specs.Step.{stepOf};
-ghost use Rattle.step.specs.Promise.{Answers as Takes, call, whoIn};
-ghost use Rattle.step.specs.Gate.{gate};
+ghost use Rattle.promise.specs.Promise.{Answers as Takes, call, whoIn};
+ghost use Rattle.promise.specs.Gate.{gate};
 ghost use Rattle.rules.specs.Report.{Reports, reportOf, chosenOf};
 ghost use Rattle.kritnamon.specs.Message.{Tells, tells};
 ghost use Rattle.kritnamon.specs.Numbers.{kindIn, ownIn, numbersIn};
@@ -20,8 +20,8 @@ use kinds::Place;
 use kinds::Term;
 use message::Body;
 use message::Fields;
+use promise::Caller;
 use reader::Read;
-use step::Caller;
 use writer::Write;
 
 // Outcomes (rule R32).
@@ -203,7 +203,7 @@ fn are_fields(numbers: &[u32], f: Fields) -> bool
 pub extern "C" fn kritnamon_write_message(numbers: &[u32], rows: &[u8], out: &mut [u8]) -> u64
     ensures { λ r. ⌜ Leaves (writes (now (numbers .entry)) (now (rows .entry)) (now (out .entry))) r (now (out .exit)) ⌝ }
 {
-    if out.len() < step::output_bytes() {
+    if out.len() < kinds::text_room() {
         return SHORT_OUTPUT;
     }
     if numbers.len() != MESSAGE_NUMBERS {
@@ -250,7 +250,7 @@ pub extern "C" fn kritnamon_places() -> u32
 pub extern "C" fn kritnamon_output_size() -> usize
     ensures { λ r. ⌜ r ≡ text-room ⌝ }
 {
-    step::output_bytes()
+    kinds::text_room()
 }
 
 // How many commands a hub reports, in the upper half of what is returned; or outcome 2 in its lower half if the kept parts are not legal.
@@ -272,27 +272,6 @@ pub extern "C" fn kritnamon_reported(state: &[u8], place: u32, out: &mut [u8]) -
 
 // ---- the step
 
-// The event, once the tests before every event are passed.
-fn act(g: Caller, event: u32, a: u32, b: u32, state: &mut [u8], input: &[u8], out: &mut [u8]) -> u64
-    requires { ⌜ gate (whoIn g) event (now state) (now out) ≡ 0 ⌝ }
-    ensures { λ r. ⌜ Takes (stepOf (call (g .size) (g .own .0) event a b (now (state .entry)) (now (input .entry)) (now (out .entry)))) r (now (state .exit)) (now (out .exit)) ⌝ }
-{
-    if event == kinds::START {
-        return say::start_at(g, state, out);
-    }
-    if event == kinds::PROPOSE {
-        return step::propose_at(g, state, input) as u64;
-    }
-    if event == kinds::SEND {
-        return say::send_at(g, state, a, b, out);
-    }
-    if event == kinds::RESTART {
-        step::restart_in(state);
-        return DONE;
-    }
-    receive::receive_at(g, state, input, out)
-}
-
 // One step of hub `own` of n. Events: 1 start; 2 propose the command in `input`; 3 send to peer a from prev b; 4 restart; 5 receive the text in `input`.
 // The lower half of what is returned is the outcome, the upper half how many bytes of message stand at the start of `out`. All but outcome 0 leave the state;
 // output bytes past a message stay.
@@ -313,9 +292,5 @@ pub extern "C" fn kritnamon_step(
         size: n,
         own: Hub::of(own),
     };
-    let refused = step::refusal_before(g, event, state, out);
-    if refused != 0 {
-        return refused as u64;
-    }
-    act(g, event, a, b, state, input, out)
+    step::take_step(g, event, a, b, state, input, out)
 }

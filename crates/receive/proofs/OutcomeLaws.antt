@@ -26,11 +26,11 @@ use Rattle.rules.specs.Step.{Call, over, written, refusal, receiving, stepOf}
 use Rattle.rules.proofs.LegalLaws.{IsMessage, legalMessage-is}
 use Rattle.rules.proofs.ReceiveLaws.{stale-term, own-term, raised-agrees, receive-fair}
 use Rattle.rules.specs.Theorems.{Says}
-use Rattle.step.specs.Promise.{Answers, Ready, Raises, leftBy, Gives, ruledBy, saidBy}
-use Rattle.step.proofs.PromiseLaws.{ready-legal, ready-next, ready-head, ready-term, ready-who, gives-answers}
-use Rattle.step.proofs.LostLaws.{raised-legal}
-use Rattle.step.specs.Gate.{gate}
-use Rattle.step.proofs.StepLaws.{step-receive}
+use Rattle.promise.specs.Promise.{Answers, Ready, Raises, leftBy, Gives, ruledBy, saidBy}
+use Rattle.promise.proofs.PromiseLaws.{ready-legal, ready-next, ready-head, ready-term, ready-who, gives-answers}
+use Rattle.promise.proofs.LostLaws.{raised-legal}
+use Rattle.promise.specs.Gate.{gate}
+use Rattle.promise.proofs.StepLaws.{step-receive}
 use Rattle.say.specs.Said.{Answering}
 use Rattle.receive.specs.declared.Did.{Did}
 use Rattle.receive.specs.declared.Told.{Told}

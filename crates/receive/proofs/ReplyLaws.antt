@@ -20,7 +20,7 @@ use Rattle.rules.specs.Step.{over, written}
 use Rattle.rules.proofs.LegalLaws.{IsMessage, legalMessage-is}
 use Rattle.rules.proofs.Fair.{IsPeer}
 use Rattle.rules.proofs.ReceiveLaws.{sender}
-use Rattle.step.proofs.PromiseLaws.{ready-legal, ready-who}
+use Rattle.promise.proofs.PromiseLaws.{ready-legal, ready-who}
 use Rattle.say.specs.Said.{Said, Answering}
 use Rattle.receive.specs.Heard.{bodyIn, messageIn, Replied, Receives}
 

@@ -29,8 +29,8 @@ use Rattle.rules.specs.Step.{over, written}
 use Rattle.rows.proofs.BoolLaws.{cond-either}
 use Rattle.rules.proofs.MessageLaws.{append-is}
 use Rattle.rules.proofs.Fair.{IsPeer}
-use Rattle.step.specs.Promise.{Ready, HearsEnd, HearsAppend, isEffect, ruledBy, saidBy, Ruled}
-use Rattle.step.proofs.PromiseLaws.{ready-image, ready-legal, ready-next, ready-who}
+use Rattle.promise.specs.Promise.{Ready, HearsEnd, HearsAppend, isEffect, ruledBy, saidBy, Ruled}
+use Rattle.promise.proofs.PromiseLaws.{ready-image, ready-legal, ready-next, ready-who}
 use Rattle.gather.specs.Yes.{Hears}
 use Rattle.replace.specs.Taken.{takenBy}
 use Rattle.replace.proofs.TakenLaws.{append-fits, append-misses, takenBy-legal}

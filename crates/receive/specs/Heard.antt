@@ -21,7 +21,7 @@ use Rattle.state.specs.Image.{stateIn}
 use Rattle.rules.specs.Outcome.{Next, done, refuses, bad-message}
 use Rattle.rules.specs.Receive.{Effect, idle, effect, isMisaddressed, isStale, contradicts, receive}
 use Rattle.rules.specs.Step.{over, written}
-use Rattle.step.specs.Promise.{Ready, leftBy, ruledBy, saidBy}
+use Rattle.promise.specs.Promise.{Ready, leftBy, ruledBy, saidBy}
 use Rattle.receive.specs.declared.Did.{Did}
 use Rattle.receive.specs.declared.Did.the-variants.{Nothing, Wrote}
 use Rattle.receive.specs.declared.Told.{Told}

@@ -13,16 +13,16 @@ ghost use Rattle.state.specs.Head.{headOf};
 ghost use Rattle.state.specs.Image.{stateIn};
 ghost use Rattle.rules.specs.Events.{len, says};
 ghost use Rattle.rules.specs.Receive.{rule, isMisaddressed, isRequest, isStale, staleReply, contradicts, receive};
-ghost use Rattle.step.specs.Promise.{whoIn, Ready, Gives};
+ghost use Rattle.promise.specs.Promise.{whoIn, Ready, Gives};
 ghost use Rattle.say.specs.Said.{Said, Answering};
 ghost use Rattle.receive.specs.Heard.{bodyIn, messageIn, heard, toldBy, Comes, Replied, Obeyed, Receives, Addressed, Obeys};
 use kinds::Hub;
 use kinds::Place;
 use message::Body;
 use message::Fields;
+use promise::Caller;
 use reader::Read;
 use state::Head;
-use step::Caller;
 
 const BAD_MESSAGE: u64 = 4;
 
@@ -194,7 +194,7 @@ fn obey(g: Caller, state: &mut [u8], f: Fields, text: &[u8], at: usize, out: &mu
                 bytes: answer_append(g, state, from, fitted, end, out),
             }
         }
-        Body::AppendYes { end } => silently(step::hear_end(g, state, from, end)),
+        Body::AppendYes { end } => silently(confirm::hear_end(g, state, from, end)),
         Body::VoteNo => Did::Nothing,
         Body::AppendNo { length: _ } => Did::Nothing,
     }
@@ -233,7 +233,7 @@ fn receive_fresh(
     ensures { λ r. ⌜ Comes (receive (whoIn g) (stateIn (now (state .entry))) (messageIn f (drop at (now (text .entry))))) (now (state .entry)) (now (out .entry)) r (now (state .exit)) (now (out .exit)) ⌝ }
 {
     if h.term.below(f.term) {
-        step::raise_in(g, h, f.term, state);
+        turns::raise_in(g, h, f.term, state);
         return told_of(obey(g, state, f, text, at, out), kinds::DONE);
     }
     let body = f.body;

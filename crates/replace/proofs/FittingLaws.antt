@@ -26,11 +26,11 @@ use Rattle.rules.specs.Events.{termAt}
 use Rattle.rules.specs.Receive.{fits, replaced, taken}
 use Rattle.rows.proofs.BoolLaws.{and-first, and-second, and-either, or-either, not-both}
 use Rattle.rules.proofs.MessageLaws.{append-is}
-use Rattle.step.specs.Promise.{Ready}
-use Rattle.step.specs.Heads.{taking}
-use Rattle.step.proofs.PromiseLaws.{ready-image, ready-legal, ready-size, ready-head, ready-who, ready-headed, ready-put}
-use Rattle.step.proofs.AppendLaws.{tested-length, tested-ballot, tested-term}
-use Rattle.step.proofs.TakenLaws.{taking-head, stays-rows, replaced-rows}
+use Rattle.promise.specs.Promise.{Ready}
+use Rattle.promise.specs.Heads.{taking}
+use Rattle.promise.proofs.PromiseLaws.{ready-image, ready-legal, ready-size, ready-head, ready-who, ready-headed, ready-put}
+use Rattle.promise.proofs.AppendLaws.{tested-length, tested-ballot, tested-term}
+use Rattle.replace.proofs.TakingLaws.{taking-head, stays-rows, replaced-rows}
 use Rattle.replace.specs.Taken.{takenBy, Heard}
 use Rattle.replace.proofs.TakenLaws.{takenBy-legal}
 

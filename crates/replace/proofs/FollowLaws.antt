@@ -14,10 +14,10 @@ use Rattle.state.proofs.LegalLaws.{legal-held, legalState-kept, follower-legal}
 use Rattle.state.proofs.ImageLaws.{image-head}
 use Rattle.rules.specs.Events.{withTerm}
 use Rattle.rules.specs.Receive.{raised, fits}
-use Rattle.step.specs.Promise.{Ready, HearsAppend}
-use Rattle.step.specs.Heads.{following}
-use Rattle.step.proofs.PromiseLaws.{ready-legal, ready-head, ready-next, ready-term}
-use Rattle.step.proofs.HeadsLaws.{following-head}
+use Rattle.promise.specs.Promise.{Ready, HearsAppend}
+use Rattle.promise.specs.Heads.{following}
+use Rattle.promise.proofs.PromiseLaws.{ready-legal, ready-head, ready-next, ready-term}
+use Rattle.promise.proofs.HeadsLaws.{following-head}
 use Rattle.replace.specs.Taken.{takenBy, Followed, Heard}
 
 -- ---- the follower

@@ -1,3 +1,4 @@
+pub mod TakingLaws
 pub mod EntriesLaws
 pub mod FollowLaws
 pub mod TakenLaws

@@ -22,7 +22,7 @@ use Rattle.rules.proofs.LegalLaws.{IsWho}
 use Rattle.rules.proofs.MessageLaws.{IsAppend, append-is}
 use Rattle.rules.proofs.Fair.{Fine, IsPeer}
 use Rattle.rules.proofs.AppendLaws.{heardAppend-fine}
-use Rattle.step.proofs.EndLaws.{fine-legal}
+use Rattle.promise.proofs.PromiseLaws.{fine-legal}
 use Rattle.replace.specs.Taken.{takenBy}
 
 -- ---- the rule

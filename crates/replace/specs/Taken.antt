@@ -13,7 +13,7 @@ use Rattle.state.specs.declared.Head.{Head}
 use Rattle.state.specs.State.{follower, State}
 use Rattle.state.specs.Image.{stateIn}
 use Rattle.rules.specs.Receive.{fits, taken}
-use Rattle.step.specs.Append.{Tested}
+use Rattle.promise.specs.Append.{Tested}
 
 -- A follower, whether the append fits or not; only if it fits its entries are taken.
 unfoldable pub takenBy : State → ℕ → ℕ → ℕ → List Entry → State

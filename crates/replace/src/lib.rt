@@ -9,14 +9,14 @@ ghost use Rattle.message.specs.Walk.{entriesFrom, Lie};
 ghost use Rattle.rows.specs.Rows.{bytesOf};
 ghost use Rattle.state.specs.Image.{logRow, image, stateIn};
 ghost use Rattle.rules.specs.Receive.{fits};
-ghost use Rattle.step.specs.Promise.{whoIn, Ready, HearsAppend};
+ghost use Rattle.promise.specs.Promise.{whoIn, Ready, HearsAppend};
 ghost use Rattle.replace.specs.Taken.{takenBy, Followed, Heard};
 use entries::EntryAt;
 use kinds::Place;
 use kinds::Term;
+use promise::Caller;
 use rows::Words;
 use state::Head;
-use step::Caller;
 
 // ---- the rows
 
@@ -66,8 +66,8 @@ fn follow_in(g: Caller, state: &mut [u8]) -> Head
     ensures { λ r. ⌜ Followed (whoIn g) (now (state .entry)) r (now (state .exit)) ⌝ }
 {
     let h = head::read_head(state);
-    step::raise_in(g, h, h.term, state);
-    step::follow(h, h.term)
+    turns::raise_in(g, h, h.term, state);
+    turns::follow(h, h.term)
 }
 
 // append at a follower of its term: whether it fits. If it fits: where ballot = term and prev+count ≤ length the log stays; otherwise entries after prev
@@ -87,16 +87,16 @@ fn take_in(
     ensures { λ r. ⌜ (r ≡ fits (stateIn (now (state .entry)) .kept) (prev .0) (prevterm .0) (prev .0 + count)) × (now (state .exit) ≡ image (takenBy (stateIn (now (state .entry))) (prev .0) (prevterm .0) (chosen .0) (entriesFrom count (drop at (now (text .entry)))))) ⌝ }
 {
     let end = Place::of(prev.number() + count);
-    if !step::is_fitting(g, h, prev, prevterm, end, state) {
+    if !fits::is_fitting(g, h, prev, prevterm, end, state) {
         return false;
     }
-    let most = step::greater(h.chosen, chosen);
+    let most = turns::greater(h.chosen, chosen);
     if h.ballot.equals(h.term) & (end.number() <= h.length.number()) {
-        head::write_head(state, step::take_head(h, most, h.length));
+        head::write_head(state, turns::take_head(h, most, h.length));
         return true;
     }
     put_entries(state, head::row_at(prev.number()), count, text, at);
-    head::write_head(state, step::take_head(h, most, end));
+    head::write_head(state, turns::take_head(h, most, end));
     true
 }
 

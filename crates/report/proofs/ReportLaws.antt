@@ -26,10 +26,11 @@ use Rattle.rules.specs.Outcome.{done, bad-state, short-output, out-of-range}
 use Rattle.rows.specs.declared.Words.{Words}
 use Rattle.rows.specs.Words.{wordsAt, wordsBytes}
 use Rattle.rules.specs.Report.{Report, told, reporting, reportOf, Reports, counting, chosenOf}
-use Rattle.step.proofs.GateLaws.{readKept-some, readKept-none}
+use Rattle.promise.proofs.GateLaws.{readKept-some, readKept-none}
 use Rattle.rows.proofs.WordsLaws.{commandIn-at, command-words, duration-below}
-use Rattle.step.proofs.LostLaws.{kept-length, kept-size, kept-within}
+use Rattle.promise.proofs.LostLaws.{kept-length, kept-size, kept-within}
 use Rattle.kinds.specs.Sizes.{row-size}
+use Rattle.kinds.specs.Packed.{packed}
 
 -- Two answers that both satisfy the promise of a report are equal.
 pub reports-unique : {a : Report} {r r′ : ℕ} {out out′ : List ℕ} → Reports a r out → Reports a r′ out′ → (r ≡ r′) × (out ≡ out′)
@@ -136,6 +137,6 @@ unfolding counting
 chosen-bad l h = rw (readKept-none l h)
 
 -- The head's count.
-pub chosen-counted : (l : List ℕ) → isSome (readKept l) ≡ true → chosenOf l ≡ headIn l .chosen .0 * 4_294_967_296
+pub chosen-counted : (l : List ℕ) → isSome (readKept l) ≡ true → chosenOf l ≡ packed done (headIn l .chosen .0)
 unfolding counting headIn keptIn
 chosen-counted l h = rw (readKept-some l h)

@@ -27,7 +27,7 @@ pub fn reported_at(state: &[u8], place: u32, out: &mut [u8]) -> u32
     kinds::DONE
 }
 
-// How many commands a hub reports, times 2^32; or 2 if the kept parts are not legal.
+// How many commands a hub reports, packed with outcome 0; or 2 if the kept parts are not legal.
 pub fn chosen_places(state: &[u8]) -> u64
     ensures { λ r. ⌜ r ≡ chosenOf (now (state .entry)) ⌝ }
 {
@@ -35,5 +35,5 @@ pub fn chosen_places(state: &[u8]) -> u64
         return kinds::BAD_STATE as u64;
     }
     let h = head::read_head(state);
-    (h.chosen.number() as u64) * 4_294_967_296
+    kinds::packed(kinds::DONE, h.chosen.number() as usize)
 }

@@ -27,9 +27,9 @@ use Rattle.rules.proofs.EntryLaws.{lastTerm, lastTerm-from, legalEntries-take, 
 use Rattle.state.proofs.LegalLaws.{IsKept}
 use Rattle.rules.proofs.MessageLaws.{request-is, is-yes}
 use Rattle.rules.proofs.Fair.{says-legal}
-use Rattle.step.specs.Append.{Tested}
-use Rattle.step.proofs.PromiseLaws.{ready-who}
-use Rattle.step.proofs.AppendLaws.{tested-length, tested-ballot}
+use Rattle.promise.specs.Append.{Tested}
+use Rattle.promise.proofs.PromiseLaws.{ready-who}
+use Rattle.promise.proofs.AppendLaws.{tested-length, tested-ballot}
 use Rattle.say.specs.Said.{Said, Answering}
 use Rattle.say.specs.Spoken.{bodyWith, counts, Speaks}
 use Rattle.say.proofs.SpokenLaws.{tested-kept, tested-within}

@@ -14,10 +14,10 @@ use Rattle.state.specs.Image.{roleOf, image, stateIn}
 use Rattle.rules.specs.Outcome.{Next, done, goes, refuses}
 use Rattle.rules.specs.Events.{isLeader}
 use Rattle.rules.specs.Step.{over, written}
-use Rattle.step.specs.Promise.{leftBy, Gives}
-use Rattle.step.specs.Append.{Tested}
-use Rattle.step.proofs.PromiseLaws.{ready-role}
-use Rattle.step.proofs.LostLaws.{not-leading}
+use Rattle.promise.specs.Promise.{leftBy, Gives}
+use Rattle.promise.specs.Append.{Tested}
+use Rattle.promise.proofs.PromiseLaws.{ready-role}
+use Rattle.promise.proofs.LostLaws.{not-leading}
 use Rattle.say.specs.Said.{Said}
 
 -- ---- what is returned and left

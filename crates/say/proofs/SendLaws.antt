@@ -24,10 +24,10 @@ use Rattle.rules.specs.Events.{termAt, says, sends, send}
 use Rattle.rows.proofs.BoolLaws.{or-second}
 use Rattle.rules.proofs.Fair.{Fair}
 use Rattle.rules.proofs.EventsLaws.{send-fair}
-use Rattle.step.specs.Promise.{Gives}
-use Rattle.step.specs.Append.{Tested}
-use Rattle.step.proofs.PromiseLaws.{ready-image, ready-legal, ready-chosen, ready-who}
-use Rattle.step.proofs.AppendLaws.{tested-length}
+use Rattle.promise.specs.Promise.{Gives}
+use Rattle.promise.specs.Append.{Tested}
+use Rattle.promise.proofs.PromiseLaws.{ready-image, ready-legal, ready-chosen, ready-who}
+use Rattle.promise.proofs.AppendLaws.{tested-length}
 use Rattle.say.specs.Said.{Said}
 use Rattle.say.specs.Spoken.{Speaks, Sending}
 use Rattle.say.proofs.SpokenLaws.{tested-kept}

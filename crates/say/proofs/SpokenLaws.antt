@@ -33,9 +33,9 @@ use Rattle.rows.proofs.RowLaws.{rowsIn-length, rowsIn-drop}
 use Rattle.rules.specs.Events.{says}
 use Rattle.rules.specs.Step.{over}
 use Rattle.state.proofs.LegalLaws.{IsKept, legalState-kept}
-use Rattle.step.specs.Append.{Tested}
-use Rattle.step.proofs.PromiseLaws.{ready-legal, ready-size}
-use Rattle.step.proofs.AppendLaws.{tested-length, tested-term}
+use Rattle.promise.specs.Append.{Tested}
+use Rattle.promise.proofs.PromiseLaws.{ready-legal, ready-size}
+use Rattle.promise.proofs.AppendLaws.{tested-length, tested-term}
 use Rattle.say.specs.Said.{Said}
 use Rattle.say.specs.Spoken.{bodyWith, counts, spoken, Speaks}
 

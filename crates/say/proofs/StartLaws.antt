@@ -18,11 +18,11 @@ use Rattle.rules.specs.Outcome.{goes, wrong-role, no-term-left}
 use Rattle.rules.specs.Events.{says, started, asks, start}
 use Rattle.rules.proofs.Fair.{Sound}
 use Rattle.rules.proofs.EventsLaws.{start-fair}
-use Rattle.step.specs.Promise.{Ready, Starts, Gives}
-use Rattle.step.specs.Append.{Tested}
-use Rattle.step.proofs.PromiseLaws.{ready-legal, ready-next, ready-who}
-use Rattle.step.proofs.LostLaws.{start-goes}
-use Rattle.step.proofs.AppendLaws.{tested-length, tested-ballot, tested-term}
+use Rattle.promise.specs.Promise.{Ready, Starts, Gives}
+use Rattle.promise.specs.Append.{Tested}
+use Rattle.promise.proofs.PromiseLaws.{ready-legal, ready-next, ready-who}
+use Rattle.promise.proofs.LostLaws.{start-goes}
+use Rattle.promise.proofs.AppendLaws.{tested-length, tested-ballot, tested-term}
 use Rattle.say.specs.Said.{Said}
 use Rattle.say.specs.Spoken.{Speaks, Asking}
 use Rattle.say.proofs.SpokenLaws.{tested-kept, tested-within}

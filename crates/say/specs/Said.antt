@@ -8,7 +8,7 @@ use Rattle.message.specs.Message.{Message}
 use Rattle.message.specs.Text.{text}
 use Rattle.state.specs.Image.{stateIn}
 use Rattle.rules.specs.Step.{over}
-use Rattle.step.specs.Promise.{Ready}
+use Rattle.promise.specs.Promise.{Ready}
 
 -- How many bytes are written, and the output with them; its other bytes stay.
 pub record Said (m : Message) (out : List ℕ) (r : ℕ) (out′ : List ℕ) : Type 0 where

@@ -25,7 +25,7 @@ use Rattle.state.specs.declared.Head.{Head}
 use Rattle.state.specs.State.{State}
 use Rattle.state.specs.Image.{stateIn}
 use Rattle.rules.specs.Events.{says, asks, sends}
-use Rattle.step.specs.Append.{Tested}
+use Rattle.promise.specs.Append.{Tested}
 
 -- The body with these entries, where its type has entries.
 abbrev pub bodyWith : Body → List Entry → MessageBody

@@ -11,8 +11,8 @@ ghost use Rattle.message.specs.Legal.{legalBody};
 ghost use Rattle.state.specs.Image.{stateIn};
 ghost use Rattle.rules.specs.Events.{len, termAt, says, asks, start, sends, send};
 ghost use Rattle.rules.specs.Receive.{vote};
-ghost use Rattle.step.specs.Promise.{whoIn, Ready, Gives};
-ghost use Rattle.step.specs.Append.{Tested};
+ghost use Rattle.promise.specs.Promise.{whoIn, Ready, Gives};
+ghost use Rattle.promise.specs.Append.{Tested};
 ghost use Rattle.say.specs.Said.{Said, Answering};
 ghost use Rattle.say.specs.Spoken.{spoken, Speaks, Asking, Sending};
 use kinds::Hub;
@@ -20,8 +20,8 @@ use kinds::Place;
 use kinds::Term;
 use message::Body;
 use message::Fields;
+use promise::Caller;
 use state::Head;
-use step::Caller;
 
 // Outcomes (rule R32).
 const WRONG_ROLE: u64 = 8;
@@ -100,7 +100,7 @@ pub fn start_at(g: Caller, state: &mut [u8], out: &mut [u8]) -> u64
     if h.term.number() == kinds::TERM_MOST {
         return NO_TERM_LEFT;
     }
-    step::start_in(g, h, state);
+    turns::start_in(g, h, state);
     let risen = head::read_head(state);
     (ask(g, risen, state, out) as u64) * UPPER
 }
@@ -115,7 +115,7 @@ fn term_before(g: Caller, h: Head, p: Place, state: &[u8]) -> Term
     if p.number() == 0 {
         return Term::of(0);
     }
-    step::term_of(g, h, p, state)
+    fits::term_of(g, h, p, state)
 }
 
 // An append with every entry after prev.

@@ -6,7 +6,7 @@ use native.Mathlib.Omega.{arith}
 use lib.ListN.{length, drop}
 use borrow.Author.Needs.{needs}
 use Rattle.message.specs.Walk.{entriesFrom}
-use Rattle.step.specs.Gather.{gatheredInto}
+use Rattle.gather.specs.Gather.{gatheredInto}
 use Rattle.gather.proofs.GatheringLaws.{Gathering, gathering-starts, gathering-ends, gathering-inside, gathering-on, gathering-next}
 use Rattle.gather.proofs.gather_in.Statement.{statement}
 use Rattle.gather.proofs.gather_in.Tie as tie

@@ -3,7 +3,7 @@ use mathlib.Core.Path.{sym, _∙_}
 use native.Mathlib.Omega.{arith}
 use borrow.Author.Needs.{needs}
 use Rattle.state.specs.Image.{state-size}
-use Rattle.step.proofs.PromiseLaws.{ready-long, ready-size}
+use Rattle.promise.proofs.PromiseLaws.{ready-long, ready-size}
 use Rattle.gather.proofs.YesLaws.{heard-from, heard-other, heard-seen, heard-room, heard-counts, heard-new}
 use Rattle.gather.proofs.hear_yes.Statement.{statement}
 use Rattle.gather.proofs.hear_yes.Tie as tie

@@ -1,7 +1,7 @@
 -- `receive::receive_message` meets its contract: each refusal is one outcome, in the order of rule R32. Assumes nothing.
 use mathlib.Core.Path.{sym, _∙_}
 use borrow.Author.Needs.{needs}
-use Rattle.step.proofs.PromiseLaws.{ready-long, ready-head}
+use Rattle.promise.proofs.PromiseLaws.{ready-long, ready-head}
 use Rattle.receive.proofs.OutcomeLaws.{misaddressed-comes, may-reply, stale-comes}
 use Rattle.receive.proofs.receive_message.Statement.{statement}
 use Rattle.receive.proofs.receive_message.Tie as tie

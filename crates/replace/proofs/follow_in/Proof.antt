@@ -1,6 +1,6 @@
 -- `replace::follow_in` meets its contract: raised to its own term, the hub is a follower with the same kept parts. Assumes nothing.
 use borrow.Author.Needs.{needs}
-use Rattle.step.proofs.PromiseLaws.{ready-long}
+use Rattle.promise.proofs.PromiseLaws.{ready-long}
 use Rattle.replace.proofs.FollowLaws.{follow-steps}
 use Rattle.replace.proofs.follow_in.Statement.{statement}
 use Rattle.replace.proofs.follow_in.Tie as tie

@@ -5,7 +5,7 @@ use native.Mathlib.Omega.{arith}
 use borrow.Author.Needs.{needs}
 use borrow.Author.Tests.{not-true, not-false}
 use Rattle.kinds.specs.Sizes.{limit}
-use Rattle.step.proofs.PromiseLaws.{ready-long}
+use Rattle.promise.proofs.PromiseLaws.{ready-long}
 use Rattle.replace.proofs.FittingLaws.{end-within, rows-inside, fits-test, stays-test, taken-not, taken-stays, taken-put}
 use Rattle.replace.proofs.take_in.Statement.{statement}
 use Rattle.replace.proofs.take_in.Tie as tie

@@ -6,10 +6,12 @@ use borrow.Author.Needs.{needs}
 use borrow.Author.Tests.{not-true, not-false}
 use Rattle.state.specs.declared.Head.{Head}
 use Rattle.state.specs.Image.{state-size}
-use Rattle.step.proofs.LostLaws.{kept-size}
+use Rattle.promise.proofs.LostLaws.{kept-size}
 use Rattle.report.proofs.ReportLaws.{chosen-bad, chosen-counted}
 use Rattle.report.proofs.chosen_places.Statement.{statement}
 use Rattle.report.proofs.chosen_places.Tie as tie
+use Rattle.kinds.specs.Packed.{packed}
+use Rattle.kinds.specs.Outcome.{done}
 
 -- Kept parts that are not legal.
 refused : tie.Need-returns
@@ -23,8 +25,8 @@ head-there c κs = omega (arith, kept-size (c .before .before .before .args .sta
 -- The head's count.
 counted : tie.Need-returns-2
 counted c =
-    ap (λ (n : ℕ). n * 4_294_967_296) (c .number .ensures ∙ ap (λ (h : Head). h .chosen .0) (c .before .read-head .ensures))
-    ∙ sym (chosen-counted _ (sym (c .before .before .before .is-kept-legal .ensures) ∙ not-false _ (c .before .before .if1 .left)))
+    c .packed .ensures ∙ ap (λ (n : ℕ). packed done n) (c .before .number .ensures ∙ ap (λ (h : Head). h .chosen .0) (c .before .before .read-head .ensures))
+    ∙ sym (chosen-counted _ (sym (c .before .before .before .before .is-kept-legal .ensures) ∙ not-false _ (c .before .before .before .if1 .left)))
 
 pub chosen-places-spec : {M : Type 1} → statement M
 chosen-places-spec = tie.close (tie.spec (λ c κs. search needs) (λ c. search needs) refused head-there (λ c κs. search needs) (λ c. search needs) (λ c. search needs) counted)

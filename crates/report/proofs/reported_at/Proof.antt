@@ -6,7 +6,7 @@ use borrow.Author.Needs.{needs}
 use borrow.Author.Tests.{not-true, not-false}
 use Rattle.state.specs.declared.Head.{Head}
 use Rattle.state.specs.Image.{state-size}
-use Rattle.step.proofs.LostLaws.{kept-size}
+use Rattle.promise.proofs.LostLaws.{kept-size}
 use Rattle.report.proofs.ReportLaws.{reported-bad, reported-short, reported-zero, reported-past, reported-inside, reported-done}
 use Rattle.report.proofs.reported_at.Statement.{statement}
 use Rattle.report.proofs.reported_at.Tie as tie

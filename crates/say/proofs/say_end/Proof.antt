@@ -1,6 +1,6 @@
 -- `say::say_end` meets its contract: append-yes with the end may be written. Assumes nothing.
 use borrow.Author.Needs.{needs}
-use Rattle.step.proofs.PromiseLaws.{ready-long}
+use Rattle.promise.proofs.PromiseLaws.{ready-long}
 use Rattle.say.proofs.AnswerLaws.{may-say-end}
 use Rattle.say.proofs.say_end.Statement.{statement}
 use Rattle.say.proofs.say_end.Tie as tie

@@ -1,6 +1,6 @@
 -- `say::say_length` meets its contract: append-no may be written, and the head's length is the log's. Assumes nothing.
 use borrow.Author.Needs.{needs}
-use Rattle.step.proofs.PromiseLaws.{ready-long}
+use Rattle.promise.proofs.PromiseLaws.{ready-long}
 use Rattle.say.proofs.AnswerLaws.{may-say-length, said-length}
 use Rattle.say.proofs.say_length.Statement.{statement}
 use Rattle.say.proofs.say_length.Tie as tie

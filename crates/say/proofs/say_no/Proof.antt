@@ -1,6 +1,6 @@
 -- `say::say_no` meets its contract: vote-no may be written. Assumes nothing.
 use borrow.Author.Needs.{needs}
-use Rattle.step.proofs.PromiseLaws.{ready-long}
+use Rattle.promise.proofs.PromiseLaws.{ready-long}
 use Rattle.say.proofs.AnswerLaws.{may-say-no}
 use Rattle.say.proofs.say_no.Statement.{statement}
 use Rattle.say.proofs.say_no.Tie as tie

@@ -1,7 +1,7 @@
 -- `say::say_vote` meets its contract: each `return` is one answer of the rule. Assumes nothing.
 use mathlib.Core.Path.{sym, _∙_}
 use borrow.Author.Needs.{needs}
-use Rattle.step.proofs.PromiseLaws.{ready-long}
+use Rattle.promise.proofs.PromiseLaws.{ready-long}
 use Rattle.say.proofs.AnswerLaws.{said-no, may-say-yes, said-yes}
 use Rattle.say.proofs.say_vote.Statement.{statement}
 use Rattle.say.proofs.say_vote.Tie as tie

@@ -1,7 +1,7 @@
 -- `say::send_after` meets its contract: an append with the term at prev, the chosen count and the entries after prev. Assumes nothing.
 use native.Mathlib.Omega.{arith}
 use borrow.Author.Needs.{needs}
-use Rattle.step.proofs.AppendLaws.{tested-length}
+use Rattle.promise.proofs.AppendLaws.{tested-length}
 use Rattle.say.proofs.SendLaws.{may-send, said-sends}
 use Rattle.say.proofs.send_after.Statement.{statement}
 use Rattle.say.proofs.send_after.Tie as tie

@@ -3,7 +3,7 @@ use mathlib.Core.Path.{sym, _∙_}
 use native.Mathlib.Omega.{arith}
 use borrow.Author.Needs.{needs}
 use Rattle.kinds.specs.Sizes.{text-room}
-use Rattle.step.proofs.PromiseLaws.{ready-long}
+use Rattle.promise.proofs.PromiseLaws.{ready-long}
 use Rattle.say.proofs.SpokenLaws.{said-most}
 use Rattle.say.proofs.StartLaws.{start-leader, start-last, may-start, start-ready, start-asking, start-done}
 use Rattle.say.proofs.start_at.Statement.{statement}

@@ -1,0 +1,2 @@
+pub mod ConfirmedLaws
+pub mod EndLaws

@@ -1,0 +1,6 @@
+pub mod GateLaws
+pub mod PromiseLaws
+pub mod HeadsLaws
+pub mod LostLaws
+pub mod AppendLaws
+pub mod StepLaws

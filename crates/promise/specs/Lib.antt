@@ -1,0 +1,4 @@
+pub mod Promise
+pub mod Gate
+pub mod Heads
+pub mod Append

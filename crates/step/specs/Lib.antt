@@ -1,5 +1,0 @@
-pub mod Promise
-pub mod Gate
-pub mod Heads
-pub mod Append
-pub mod Gather
