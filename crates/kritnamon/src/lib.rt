@@ -1,6 +1,5 @@
 // What the hub firmware calls, with numbers and byte slices only. Each function here is one of the crates below under its name for C.
 ghost use mathlib.Core.Path.{_≡_};
-ghost use mathlib.Core.List.{[], _∷_};
 ghost use Prim.Native.Nat.{_≤_};
 ghost use lib.ListN.{length};
 ghost use lib.Seq.{sets};
@@ -8,8 +7,7 @@ ghost use Rattle.command.specs.Answers.{Answers, written, told, commandWith};
 ghost use Rattle.kinds.specs.Sizes.{limit, text-room};
 ghost use Rattle.state.specs.Image.{state-size};
 ghost use Rattle.rules.specs.Step.{stepOf};
-ghost use Rattle.promise.specs.Promise.{Answers as Takes, call, whoIn};
-ghost use Rattle.promise.specs.Gate.{gate};
+ghost use Rattle.promise.specs.Promise.{Answers as Takes, call};
 ghost use Rattle.rules.specs.Report.{Reports, reportOf, chosenOf};
 ghost use Rattle.kritnamon.specs.Message.{Tells, tells};
 ghost use Rattle.kritnamon.specs.Numbers.{kindIn, ownIn, numbersIn};

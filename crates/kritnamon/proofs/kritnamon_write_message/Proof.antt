@@ -12,21 +12,21 @@ use Rattle.kritnamon.proofs.kritnamon_write_message.Tie as tie
 short : tie.Need-returns
 short c =
     let args = c .before .before .before .before .before .args in
-    leaves-short (args .numbers .now) (args .rows .now) (args .out .now) _ (c .before .output-bytes .ensures) (c .if1 .taken)
+    leaves-short (args .numbers .now) (args .rows .now) (args .out .now) _ (c .before .text-room .ensures) (c .if1 .taken)
 
 -- There are not eight numbers.
 not-eight : tie.Need-returns-2
 not-eight c =
     let at-room = c .before in
     let args = at-room .before .before .before .before .before .args in
-    leaves-count (args .numbers .now) (args .rows .now) (args .out .now) _ (at-room .before .output-bytes .ensures) (at-room .if1 .left) (c .if2 .taken)
+    leaves-count (args .numbers .now) (args .rows .now) (args .out .now) _ (at-room .before .text-room .ensures) (at-room .if1 .left) (c .if2 .taken)
 
 -- They are not those of their fields.
 others : tie.Need-returns-3
 others c =
     let at-room = c .before .before .before .before in
     let args = at-room .before .before .before .before .before .args in
-    leaves-others (args .numbers .now) (args .rows .now) (args .out .now) _ (at-room .before .output-bytes .ensures) (at-room .if1 .left) _
+    leaves-others (args .numbers .now) (args .rows .now) (args .out .now) _ (at-room .before .text-room .ensures) (at-room .if1 .left) _
     (c .before .are-fields .ensures) (not-true _ (c .if3 .taken))
 
 -- How many bytes the text has fits.
@@ -40,7 +40,7 @@ small c =
     fits-under _ _ 0x1_0000_0000_0000_0000
     (omega (
       arith,
-      bytes-small (args .numbers .now) (args .rows .now) (args .out .now) _ (at-room .before .output-bytes .ensures) (at-room .if1 .left) _
+      bytes-small (args .numbers .now) (args .rows .now) (args .out .now) _ (at-room .before .text-room .ensures) (at-room .if1 .left) _
           (at-tested .are-fields .ensures) (not-false _ (at-write .before .before .if3 .left)) _ (at-fields .fields-with .ensures)
           (at-write .write-message .ensures) (c .before .answer .given .1),
     ))
@@ -54,7 +54,7 @@ wrote c =
     let at-fields = at-tested .before in
     let at-room = at-fields .before .before in
     let args = at-room .before .before .before .before .before .args in
-    leaves-answer (args .numbers .now) (args .rows .now) (args .out .now) _ (at-room .before .output-bytes .ensures) (at-room .if1 .left) _
+    leaves-answer (args .numbers .now) (args .rows .now) (args .out .now) _ (at-room .before .text-room .ensures) (at-room .if1 .left) _
     (at-tested .are-fields .ensures) (not-false _ (at-write .before .before .if3 .left)) _ (at-fields .fields-with .ensures)
     (at-write .write-message .ensures) (c .before .answer .given .1) (omega arith)
 
@@ -66,7 +66,7 @@ told-short c =
     let at-fields = at-tested .before in
     let at-room = at-fields .before .before in
     let args = at-room .before .before .before .before .before .args in
-    leaves-answer (args .numbers .now) (args .rows .now) (args .out .now) _ (at-room .before .output-bytes .ensures) (at-room .if1 .left) _
+    leaves-answer (args .numbers .now) (args .rows .now) (args .out .now) _ (at-room .before .text-room .ensures) (at-room .if1 .left) _
     (at-tested .are-fields .ensures) (not-false _ (at-write .before .before .if3 .left)) _ (at-fields .fields-with .ensures)
     (at-write .write-message .ensures) (c .enum-told .given .1) refl
 
@@ -78,7 +78,7 @@ told-illegal c =
     let at-fields = at-tested .before in
     let at-room = at-fields .before .before in
     let args = at-room .before .before .before .before .before .args in
-    leaves-answer (args .numbers .now) (args .rows .now) (args .out .now) _ (at-room .before .output-bytes .ensures) (at-room .if1 .left) _
+    leaves-answer (args .numbers .now) (args .rows .now) (args .out .now) _ (at-room .before .text-room .ensures) (at-room .if1 .left) _
     (at-tested .are-fields .ensures) (not-false _ (at-write .before .before .if3 .left)) _ (at-fields .fields-with .ensures)
     (at-write .write-message .ensures) (c .enum-told2 .given .1) refl
 

@@ -75,6 +75,7 @@ act-spec =
     sent
     restart-kept
     (λ c. search needs)
+    (λ c. search needs)
     restarted
     receive-ready
     (λ c. search needs)

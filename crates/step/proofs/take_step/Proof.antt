@@ -2,13 +2,12 @@
 use mathlib.Core.Path.{sym, _∙_}
 use borrow.Author.Needs.{needs}
 use Rattle.promise.proofs.StepLaws.{step-refused}
-use Rattle.kritnamon.proofs.GroupLaws.{own-is}
 use Rattle.step.proofs.take_step.Statement.{statement}
 use Rattle.step.proofs.take_step.Tie as tie
 
 -- Refused.
 refused : tie.Need-returns
-refused c = own-is _ _ _ _ _ _ _ _ _ (c .before .before .before .before .of .ensures) (step-refused _ _ (c .before .refusal-before .ensures) (c .if1 .taken))
+refused c = step-refused _ _ (c .before .refusal-before .ensures) (c .if1 .taken)
 
 -- The tests are passed.
 passed : tie.Need-act-requires
@@ -16,13 +15,12 @@ passed c κs = sym (c .before .before .before .refusal-before .ensures) ∙ c .b
 
 -- The event.
 acted : tie.Need-returns-2
-acted c = own-is _ _ _ _ _ _ _ _ _ (c .before .before .before .before .before .before .before .before .before .before .before .of .ensures) (c .before .before .before .before .act .ensures)
+acted c = c .before .before .before .before .act .ensures
 
 pub take-step-spec : {M : Type 1} → statement M
 take-step-spec =
     tie.close
     (tie.spec
-    (λ c κs. search needs)
     (λ c κs. search needs)
     (λ c. search needs)
     (λ c. search needs)
