@@ -102,10 +102,10 @@ pub fn next_entry<'a>(s: &'a [u8], table: &'a [u16; 256], at: usize, low: u32, h
     if s.len() < at {
         return EntryAt::End;
     }
-    let Next::At(p) = text::stands(s, at, b"entry=") else {
+    let Next::At(p) = scan::stands(s, at, b"entry=") else {
         return EntryAt::End;
     };
-    let Number::Is { value, next: q } = text::number_in(s, p, low, high, COLON) else {
+    let Number::Is { value, next: q } = scan::number_in(s, p, low, high, COLON) else {
         return EntryAt::End;
     };
     let Words::Are {
@@ -114,11 +114,11 @@ pub fn next_entry<'a>(s: &'a [u8], table: &'a [u16; 256], at: usize, low: u32, h
         c: a,
         d: b,
         next: o,
-    } = text::hex_words(s, table, q)
+    } = hex::hex_words(s, table, q)
     else {
         return EntryAt::End;
     };
-    let Next::At(next) = text::stands(s, o, b"\n") else {
+    let Next::At(next) = scan::stands(s, o, b"\n") else {
         return EntryAt::End;
     };
     let term = Term::of(value);
@@ -202,9 +202,9 @@ fn write_term(out: &mut [u8], at: usize, term: u32) -> usize
     requires { ⌜ at + length (entry= ++ (decimal term ++ (58 ∷ []))) ≤ length (now out) ⌝ }
     ensures { λ r. ⌜ Wrote (now (out .entry)) at (entry= ++ (decimal term ++ (58 ∷ []))) r (now (out .exit)) ⌝ }
 {
-    let p = text::put(out, at, b"entry=");
-    let q = text::write_number(out, p, term);
-    text::put(out, q, b":")
+    let p = print::put(out, at, b"entry=");
+    let q = print::write_number(out, p, term);
+    print::put(out, q, b":")
 }
 
 // The digits of a command, and the line's end.
@@ -212,8 +212,8 @@ fn write_digits(out: &mut [u8], at: usize, bytes: &[u8]) -> usize
     requires { ⌜ at + length (hex (now bytes) ++ LF) ≤ length (now out) ⌝ }
     ensures { λ r. ⌜ Wrote (now (out .entry)) at (hex (now (bytes .entry)) ++ LF) r (now (out .exit)) ⌝ }
 {
-    let p = text::write_hex(out, at, bytes);
-    text::put(out, p, b"\n")
+    let p = hex::write_hex(out, at, bytes);
+    print::put(out, p, b"\n")
 }
 
 // The entry line of the row from a place on.

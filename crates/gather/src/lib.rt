@@ -46,7 +46,7 @@ fn gather_in(
     requires { ⌜ (first + count * row-size ≤ length (now state)) × Lie count (drop at (now text)) ⌝ }
     ensures { λ _. ⌜ now (state .exit) ≡ gatheredInto (now (state .entry)) first held (ballot .0) (entriesFrom count (drop at (now (text .entry)))) ⌝ }
 {
-    let table = text::hex_table();
+    let table = hex::hex_table();
     let mut i = at;
     let mut row = first;
     let mut n: u32 = 0;

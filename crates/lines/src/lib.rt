@@ -15,9 +15,6 @@ use message::Fields;
 use text::Next;
 use text::Number;
 
-// The byte that ends a line.
-const LF: u8 = 10;
-
 // A type, and the place past its line.
 pub enum KindAt {
     Is { kind: Kind, next: usize },
@@ -45,37 +42,37 @@ fn kind_in(s: &[u8], at: usize) -> KindAt
     requires { ⌜ at ≤ length (now s) ⌝ }
     ensures { λ r. ⌜ FoundKind (now (s .entry)) (typeAmong types (drop at (now (s .entry)))) r ⌝ }
 {
-    if let Next::At(next) = text::stands(s, at, b"vote-request\n") {
+    if let Next::At(next) = scan::stands(s, at, b"vote-request\n") {
         return KindAt::Is {
             kind: Kind::VoteRequest,
             next,
         };
     }
-    if let Next::At(next) = text::stands(s, at, b"vote-yes\n") {
+    if let Next::At(next) = scan::stands(s, at, b"vote-yes\n") {
         return KindAt::Is {
             kind: Kind::VoteYes,
             next,
         };
     }
-    if let Next::At(next) = text::stands(s, at, b"vote-no\n") {
+    if let Next::At(next) = scan::stands(s, at, b"vote-no\n") {
         return KindAt::Is {
             kind: Kind::VoteNo,
             next,
         };
     }
-    if let Next::At(next) = text::stands(s, at, b"append\n") {
+    if let Next::At(next) = scan::stands(s, at, b"append\n") {
         return KindAt::Is {
             kind: Kind::Append,
             next,
         };
     }
-    if let Next::At(next) = text::stands(s, at, b"append-yes\n") {
+    if let Next::At(next) = scan::stands(s, at, b"append-yes\n") {
         return KindAt::Is {
             kind: Kind::AppendYes,
             next,
         };
     }
-    if let Next::At(next) = text::stands(s, at, b"append-no\n") {
+    if let Next::At(next) = scan::stands(s, at, b"append-no\n") {
         return KindAt::Is {
             kind: Kind::AppendNo,
             next,
@@ -88,7 +85,7 @@ fn kind_in(s: &[u8], at: usize) -> KindAt
 fn type_in(s: &[u8]) -> KindAt
     ensures { λ r. ⌜ FoundKind (now (s .entry)) (typeLine (now (s .entry))) r ⌝ }
 {
-    let Next::At(at) = text::stands(s, 0, b"type=") else {
+    let Next::At(at) = scan::stands(s, 0, b"type=") else {
         return KindAt::Bad;
     };
     kind_in(s, at)
@@ -102,17 +99,17 @@ fn key_in(s: &[u8], at: usize, field: Field) -> Next
     ensures { λ r. ⌜ FoundNext (now (s .entry)) (literal (key (fieldIs field)) (drop at (now (s .entry)))) r ⌝ }
 {
     match field {
-        Field::Term => text::stands(s, at, b"term="),
-        Field::From => text::stands(s, at, b"from="),
-        Field::To => text::stands(s, at, b"to="),
-        Field::Last => text::stands(s, at, b"last="),
-        Field::Ballot => text::stands(s, at, b"ballot="),
-        Field::Count => text::stands(s, at, b"count="),
-        Field::Prev => text::stands(s, at, b"prev="),
-        Field::Prevterm => text::stands(s, at, b"prevterm="),
-        Field::Chosen => text::stands(s, at, b"chosen="),
-        Field::End => text::stands(s, at, b"end="),
-        Field::Length => text::stands(s, at, b"length="),
+        Field::Term => scan::stands(s, at, b"term="),
+        Field::From => scan::stands(s, at, b"from="),
+        Field::To => scan::stands(s, at, b"to="),
+        Field::Last => scan::stands(s, at, b"last="),
+        Field::Ballot => scan::stands(s, at, b"ballot="),
+        Field::Count => scan::stands(s, at, b"count="),
+        Field::Prev => scan::stands(s, at, b"prev="),
+        Field::Prevterm => scan::stands(s, at, b"prevterm="),
+        Field::Chosen => scan::stands(s, at, b"chosen="),
+        Field::End => scan::stands(s, at, b"end="),
+        Field::Length => scan::stands(s, at, b"length="),
     }
 }
 
@@ -124,7 +121,7 @@ fn field_in(s: &[u8], at: usize, field: Field, lo: u32, hi: u32) -> Number
     let Next::At(p) = key_in(s, at, field) else {
         return Number::Bad;
     };
-    text::number_in(s, p, lo, hi, LF)
+    scan::number_in(s, p, lo, hi, text::LF)
 }
 
 // The lines of a type's fields, in order, up to the first that is none.

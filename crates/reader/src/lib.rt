@@ -29,7 +29,7 @@ pub fn read_message(s: &[u8]) -> Read
         return Read::Refused;
     };
     let span = entries::span_of(fields);
-    let table = text::hex_table();
+    let table = hex::hex_table();
     let Next::At(end) = entries::entries_in(s, &table, next, span.count, span.low, span.high) else {
         return Read::Refused;
     };

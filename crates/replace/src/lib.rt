@@ -25,7 +25,7 @@ fn put_entries(state: &mut [u8], row: usize, count: u32, text: &[u8], at: usize)
     requires { ⌜ Lie count (drop at (now text)) × (row + count * row-size ≤ length (now state)) ⌝ }
     ensures { λ _. ⌜ now (state .exit) ≡ sets (now (state .entry)) row (bytesOf logRow (entriesFrom count (drop at (now (text .entry))))) ⌝ }
 {
-    let table = text::hex_table();
+    let table = hex::hex_table();
     let mut to = row;
     let mut from = at;
     let mut left = count;

@@ -20,7 +20,7 @@ use Rattle.text.specs.declared.Number.{Number}
 use Rattle.text.specs.declared.Number.the-variants.{Is, Bad as Number·Bad}
 use Rattle.kinds.proofs.BetweenLaws.{between-below, between-above}
 use Rattle.text.proofs.DecimalLaws.{digit-is, more-end, more-digit, more-other, number-end, number-zero, number-first, number-other}
-use Rattle.text.proofs.RangeLaws.{within-in, within-sound, more-above, numberIn-lost, numberIn-below, numberIn-other, numberIn-ended, lineIn-nil}
+use Rattle.text.proofs.RangeLaws.{within-in, within-sound, more-above, numberIn-lost, numberIn-below, numberIn-other, numberIn-ended}
 use Rattle.text.proofs.ReaderLaws.{got-value, got-rest, onward-got, onward-lost, onward-sound, literal-same, literal-other}
 
 -- ---- places
@@ -188,10 +188,6 @@ module _ (s : List ℕ) (at lo hi end : ℕ) (r : Number) (found : FoundNumber s
 -- ---- a line
 
 module _ (key s : List ℕ) (at lo hi : ℕ) where
-  -- The place lies past the end.
-  pub line-past : length s < at → lineIn key lo hi (drop at s) ≡ lost
-  line-past h = rw (drop-past s at (omega arith)) (lineIn-nil key lo hi)
-
   module _ (r : Next) (found : FoundNext s (literal key (drop at s)) r) where
     -- The key does not stand there.
     pub line-none : r ≡ Next·Bad → lineIn key lo hi (drop at s) ≡ lost

@@ -93,12 +93,6 @@ module _ (lo hi end : ℕ) (s : List ℕ) where
 
 -- ---- a line
 
--- Nothing is no line.
-pub lineIn-nil : (key : List ℕ) (lo hi : ℕ) → lineIn key lo hi [] ≡ lost
-unfolding lineIn numberIn literal onward number
-lineIn-nil [] lo hi = refl
-lineIn-nil (k ∷ ks) lo hi = refl
-
 module _ (key : List ℕ) (lo hi : ℕ) (s : List ℕ) where
   -- A line of a range is a line whose number lies there.
   pub lineIn-is : lineIn key lo hi s ≡ onward (line key s) (within lo hi)

@@ -41,21 +41,21 @@ fn write_type(out: &mut [u8], body: Body) -> usize
     ensures { λ r. ⌜ Wrote (now (out .entry)) 0 (typeText body) r (now (out .exit)) ⌝ }
 {
     match body {
-        Body::VoteRequest { last: _, ballot: _ } => text::put(out, 0, b"type=vote-request\n"),
+        Body::VoteRequest { last: _, ballot: _ } => print::put(out, 0, b"type=vote-request\n"),
         Body::VoteYes {
             last: _,
             ballot: _,
             count: _,
-        } => text::put(out, 0, b"type=vote-yes\n"),
-        Body::VoteNo => text::put(out, 0, b"type=vote-no\n"),
+        } => print::put(out, 0, b"type=vote-yes\n"),
+        Body::VoteNo => print::put(out, 0, b"type=vote-no\n"),
         Body::Append {
             prev: _,
             prevterm: _,
             chosen: _,
             count: _,
-        } => text::put(out, 0, b"type=append\n"),
-        Body::AppendYes { end: _ } => text::put(out, 0, b"type=append-yes\n"),
-        Body::AppendNo { length: _ } => text::put(out, 0, b"type=append-no\n"),
+        } => print::put(out, 0, b"type=append\n"),
+        Body::AppendYes { end: _ } => print::put(out, 0, b"type=append-yes\n"),
+        Body::AppendNo { length: _ } => print::put(out, 0, b"type=append-no\n"),
     }
 }
 
@@ -64,8 +64,8 @@ fn write_two(out: &mut [u8], at: usize, key: &[u8], x: u32, other: &[u8], y: u32
     requires { ⌜ at + length (twoLines (now key) x (now other) y) ≤ length (now out) ⌝ }
     ensures { λ r. ⌜ Wrote (now (out .entry)) at (twoLines (now (key .entry)) x (now (other .entry)) y) r (now (out .exit)) ⌝ }
 {
-    let p = text::write_line(out, at, key, x);
-    text::write_line(out, p, other, y)
+    let p = print::write_line(out, at, key, x);
+    print::write_line(out, p, other, y)
 }
 
 // The lines term, from and to.
@@ -81,7 +81,7 @@ fn write_head(out: &mut [u8], at: usize, f: Fields) -> usize
         b"from=",
         f.from.number(),
     );
-    text::write_line(out, p, b"to=", f.to.number())
+    print::write_line(out, p, b"to=", f.to.number())
 }
 
 // A vote-request's own lines.
@@ -112,7 +112,7 @@ fn write_yes(out: &mut [u8], at: usize, last: Place, ballot: Term, count: u32) -
         b"ballot=",
         ballot.number(),
     );
-    text::write_line(out, p, b"count=", count)
+    print::write_line(out, p, b"count=", count)
 }
 
 // An append's own lines.
@@ -157,8 +157,8 @@ fn write_own(out: &mut [u8], at: usize, body: Body) -> usize
             chosen,
             count,
         } => write_append(out, at, prev, prevterm, chosen, count),
-        Body::AppendYes { end } => text::write_line(out, at, b"end=", end.number()),
-        Body::AppendNo { length } => text::write_line(out, at, b"length=", length.number()),
+        Body::AppendYes { end } => print::write_line(out, at, b"end=", end.number()),
+        Body::AppendNo { length } => print::write_line(out, at, b"length=", length.number()),
     }
 }
 
