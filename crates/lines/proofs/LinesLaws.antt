@@ -11,6 +11,7 @@ use Rattle.text.specs.Reader.{literal, onward}
 use Rattle.text.specs.declared.Next.{Next}
 use Rattle.text.specs.declared.Number.{Number}
 use Rattle.text.specs.declared.Number.the-variants.{Is, Bad}
+use Rattle.text.proofs.CaseLaws.{number-is, number-bad}
 use Rattle.text.proofs.ReaderLaws.{onward-got, onward-lost}
 use Rattle.message.specs.Fields.{fields, slot, unset}
 use Rattle.message.specs.Range.{range, linesIn}
@@ -71,9 +72,6 @@ module _ {s : List ℕ} {at : ℕ} {k : Kind} {ns : List ℕ} {next read : ℕ} 
       unfolding linesIn
       here = h .same ∙ rw (field-at k read more, ← h .at-field, ← in-range)
 
-      abbrev line : Number → Type 0
-      line a = FoundNumber s (lineIn (key (fieldIs f)) (b .lo) (b .hi) (drop next s)) a
-
       -- The next line is none.
       pub reading-stuck : x ≡ Bad → FoundLines s at k (record { numbers = ns; read = read; next = next })
       reading-stuck bad =
@@ -81,15 +79,15 @@ module _ {s : List ℕ} {at : ℕ} {k : Kind} {ns : List ℕ} {next read : ℕ} 
             inside = h .inside;
             so-far = h .same;
             all = λ e. absurd (omega arith);
-            stuck = λ _. rw (← h .at-field, ← in-range) (subst line bad found);
-            refused = λ _. here ∙ onward-lost _ (subst line bad found);
+            stuck = λ _. rw (← h .at-field, ← in-range) (number-bad s _ x found bad);
+            refused = λ _. here ∙ onward-lost _ (number-bad s _ x found bad);
           }
 
       -- The next line was read.
       pub reading-again : {v n j : ℕ} {g : Field} → x ≡ Is v n → j ≡ slot (fieldIs f) → g ≡ following k f → Reading s at k (set ns j v) n (read + 1) g
       unfolding fieldAt
       reading-again {v} {n} e there next-is =
-          let held : line (Is v n) = subst line e found in
+          let held = number-is s _ x found v n e in
           record {
             inside = held .inside;
             count = omega arith;

@@ -11,7 +11,7 @@ use mathlib.Core.Path.{_∙_, _≡_, ap, ap₂, refl, subst, sym}
 use native.Mathlib.Omega.{arith}
 use Rattle.command.specs.Entry.{Entry, legalEntries}
 use Rattle.kinds.specs.Sizes.{text-room}
-use Rattle.entries.proofs.CaseLaws.{next-at, next-bad}
+use Rattle.text.proofs.CaseLaws.{next-at, next-bad}
 use Rattle.lines.proofs.CaseLaws.{fields-are, fields-bad}
 use Rattle.message.proofs.FieldsLaws.{entriesOf-messageOf}
 use Rattle.reader.proofs.WholeLaws.{entriesAfter, messageIn-opening}

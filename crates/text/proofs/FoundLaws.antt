@@ -2,7 +2,7 @@
 -- code's tests tell. And that a find has one answer. Assumes nothing.
 use Prim.Native.Nat.{ℕ, _+_, _-_, _*_, _≤_, _<_}
 use mathlib.Core.List.{List, [], _∷_}
-use mathlib.Core.Path.{_≡_, refl, ap, subst, sym, _∙_}
+use mathlib.Core.Path.{_≡_, refl, ap, sym, _∙_}
 use native.Mathlib.Omega.{arith}
 use native.Mathlib.Numerals.{add-one}
 use mathlib.Core.Bool.{Bool, true, false}
@@ -19,6 +19,7 @@ use Rattle.text.specs.declared.Next.the-variants.{At, Bad as Next·Bad}
 use Rattle.text.specs.declared.Number.{Number}
 use Rattle.text.specs.declared.Number.the-variants.{Is, Bad as Number·Bad}
 use Rattle.kinds.proofs.BetweenLaws.{between-below, between-above}
+use Rattle.text.proofs.CaseLaws.{next-at, next-bad, number-is, number-bad}
 use Rattle.text.proofs.DecimalLaws.{digit-is, more-end, more-digit, more-other, number-end, number-zero, number-first, number-other}
 use Rattle.text.proofs.RangeLaws.{within-in, within-sound, more-above, numberIn-lost, numberIn-below, numberIn-other, numberIn-ended}
 use Rattle.text.proofs.ReaderLaws.{got-value, got-rest, onward-got, onward-lost, onward-sound, literal-same, literal-other}
@@ -148,11 +149,11 @@ module _ (s : List ℕ) (at hi : ℕ) where
 module _ (s : List ℕ) (at lo hi end : ℕ) (r : Number) (found : FoundNumber s (onward (number (drop at s)) (within 0 hi)) r) where
   -- There was no number.
   pub in-none : r ≡ Number·Bad → numberIn lo hi end (drop at s) ≡ lost
-  in-none e = numberIn-lost lo hi end (drop at s) (subst (λ (a : Number). FoundNumber s (onward (number (drop at s)) (within 0 hi)) a) e found)
+  in-none e = numberIn-lost lo hi end (drop at s) (number-bad s _ r found e)
 
   module _ (x n : ℕ) (e : r ≡ Is x n) where
     was : Found s (onward (number (drop at s)) (within 0 hi)) x n
-    was = subst (λ (a : Number). FoundNumber s (onward (number (drop at s)) (within 0 hi)) a) e found
+    was = number-is s _ r found x n e
 
     it : (number (drop at s) ≡ got x (drop n s)) × (x ≤ hi)
     it =
@@ -192,7 +193,7 @@ module _ (key s : List ℕ) (at lo hi : ℕ) where
     -- The key does not stand there.
     pub line-none : r ≡ Next·Bad → lineIn key lo hi (drop at s) ≡ lost
     unfolding lineIn
-    line-none e = onward-lost _ (subst (λ (a : Next). FoundNext s (literal key (drop at s)) a) e found)
+    line-none e = onward-lost _ (next-bad s _ r found e)
 
     -- It stands there, and the number is read behind it.
     pub line-number
@@ -203,5 +204,4 @@ module _ (key s : List ℕ) (at lo hi : ℕ) where
         → FoundNumber s (lineIn key lo hi (drop at s)) x
     unfolding lineIn onward
     line-number p e x f =
-        let w : Found s (literal key (drop at s)) tt p = subst (λ (a : Next). FoundNext s (literal key (drop at s)) a) e found in
-        rw (w .read) f
+        rw (next-at s _ r found p e .read) f

@@ -3,7 +3,7 @@ use Prim.Native.Nat.{ℕ, zero, suc, _+_, _-_, _*_, _/_, _%_, _≤_, _<_}
 use mathlib.Core.Bool.{Bool, true, false}
 use mathlib.Core.List.{List, [], _∷_, _++_}
 use mathlib.Core.Logic.{_⊎_, inl, inr, ⊎-elim}
-use mathlib.Core.Path.{_≡_, refl, ap, subst, sym, _∙_}
+use mathlib.Core.Path.{_≡_, refl, ap, sym, _∙_}
 use native.Mathlib.Omega.{arith}
 use lib.Dec.{ltb, eqb}
 use lib.ListN.{length, getD, set, drop, replicate, length-append, length-drop, length-set, length-replicate, getD-replicate}
@@ -18,6 +18,7 @@ use Rattle.text.specs.Reader.{Got, got, lost, onward, pure}
 use Rattle.text.specs.declared.Word.{Word}
 use Rattle.text.specs.declared.Word.the-variants.{Is as Word·Is, Bad as Word·Bad}
 use Rattle.kinds.proofs.BetweenLaws.{between-true}
+use Rattle.text.proofs.CaseLaws.{word-is, word-none}
 use Rattle.text.proofs.FoundLaws.{drop-next}
 use Rattle.text.proofs.HexLaws.{digit-low, digit-high, nibble-digit, nibble-letter, nibble-other, nibble-written, nibble-sound, hex-sound, hex-length}
 use Rattle.text.proofs.ReaderLaws.{onward-got, onward-lost, onward-pure, onward-assoc}
@@ -218,13 +219,6 @@ module _ (m n : ℕ) (s : List ℕ) (at : ℕ) where
     hex-both cs q g = record { inside = g .inside; read = on ∙ onward-got _ (g .read) }
 
 -- ---- four words
-
--- What an answer says of a word that it turned out to be.
-word-is : (s : List ℕ) (n : ℕ) (g : Got (List ℕ)) (r : Word) → FoundWord s n g r → (w : ℕ) → r ≡ Word·Is w → Found s g (bytesOf w) n
-word-is s n g r f w e = subst (λ (a : Word). FoundWord s n g a) e f
-
-word-none : (s : List ℕ) (n : ℕ) (g : Got (List ℕ)) (r : Word) → FoundWord s n g r → r ≡ Word·Bad → g ≡ lost
-word-none s n g r f e = subst (λ (a : Word). FoundWord s n g a) e f
 
 module _ (s : List ℕ) (at : ℕ) where
   -- The place lies past the end.
