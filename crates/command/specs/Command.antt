@@ -17,9 +17,13 @@ pub record Command : Type 0 where
 
 -- ---- legal commands
 
--- A gain: the bits of a binary32, as an unsigned number, are at most 3f800000 (+0 to 1.0).
+-- The bits of gain 1.0, the greatest.
+abbrev pub gain-most : ℕ
+gain-most = 0x3f80_0000
+
+-- A gain: the bits of a binary32, as an unsigned number, are at most those of 1.0 (from +0 on).
 unfoldable pub isGain : ℕ → Bool
-isGain bits = leb bits 0x3f80_0000
+isGain bits = leb bits gain-most
 
 -- The duration of a buzz or a ramp: 1..600,000 ms.
 unfoldable pub isDuration : ℤ → Bool

@@ -148,7 +148,7 @@ fn entry_in<'a>(s: &'a [u8], table: &'a [u16; 256], at: usize, low: u32, high: u
     else {
         return EntryAt::End;
     };
-    if !command::legal_words(what, duration, a, b) {
+    if !lawful::legal_words(what, duration, a, b) {
         return EntryAt::End;
     }
     EntryAt::Is {
@@ -221,7 +221,7 @@ fn write_row(out: &mut [u8], at: usize, rows: &[u8], from: usize) -> usize
     requires { ⌜ (from + 20 ≤ length (now rows)) × (at + length (entryText (rowEntry (drop from (now rows)))) ≤ length (now out)) ⌝ }
     ensures { λ r. ⌜ Wrote (now (out .entry)) at (entryText (rowEntry (drop from (now (rows .entry))))) r (now (out .exit)) ⌝ }
 {
-    let term = command::get32(rows, from);
+    let term = words::get32(rows, from);
     let p = write_term(out, at, term);
     let a = from + 4;
     let e = from + 20;

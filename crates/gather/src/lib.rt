@@ -26,7 +26,7 @@ fn gather_row(state: &mut [u8], at: usize, held: bool, ballot: Term, c: Words)
     requires { ⌜ at + row-size ≤ length (now state) ⌝ }
     ensures { λ _. ⌜ now (state .exit) ≡ rowGathered (now (state .entry)) at held (ballot .0) (rowWords (ballot .0) c) ⌝ }
 {
-    let there = Term::of(command::get32(state, at));
+    let there = Term::of(words::get32(state, at));
     if held & !there.below(ballot) {
         return;
     }

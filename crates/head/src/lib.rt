@@ -23,14 +23,14 @@ fn term_at(s: &[u8], at: usize) -> Term
     requires { ⌜ at + 4 ≤ length (now s) ⌝ }
     ensures { λ r. ⌜ r ≡ term (wordAt at 4 (now (s .entry))) ⌝ }
 {
-    Term::of(command::get32(s, at))
+    Term::of(words::get32(s, at))
 }
 
 fn place_at(s: &[u8], at: usize) -> Place
     requires { ⌜ at + 4 ≤ length (now s) ⌝ }
     ensures { λ r. ⌜ r ≡ place (wordAt at 4 (now (s .entry))) ⌝ }
 {
-    Place::of(command::get32(s, at))
+    Place::of(words::get32(s, at))
 }
 
 // A place for each of the seven hubs.
@@ -87,14 +87,14 @@ fn put_place(s: &mut [u8], at: usize, p: Place)
     requires { ⌜ at + 4 ≤ length (now s) ⌝ }
     ensures { λ _. ⌜ now (s .exit) ≡ sets (now (s .entry)) at (word 4 (p .0)) ⌝ }
 {
-    command::put32(s, at, p.number());
+    words::put32(s, at, p.number());
 }
 
 fn put_term(s: &mut [u8], at: usize, t: Term)
     requires { ⌜ at + 4 ≤ length (now s) ⌝ }
     ensures { λ _. ⌜ now (s .exit) ≡ sets (now (s .entry)) at (word 4 (t .0)) ⌝ }
 {
-    command::put32(s, at, t.number());
+    words::put32(s, at, t.number());
 }
 
 // Writes the head's five numbers.

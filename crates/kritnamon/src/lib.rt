@@ -41,7 +41,7 @@ const VERSION: u32 = 10000;
 pub extern "C" fn kritnamon_read_command(bytes: &[u8], numbers: &mut [u32]) -> u32
     ensures { λ r. ⌜ Answers (told (now (bytes .entry)) (now (numbers .entry))) r (now (numbers .exit)) ⌝ }
 {
-    command::read_numbers(bytes, numbers)
+    commands::read_numbers(bytes, numbers)
 }
 
 // Writes a command's 16 bytes at the start of `out`. A refusal (3: too little room; 10: not legal) leaves every byte.
@@ -56,7 +56,7 @@ pub extern "C" fn kritnamon_write_command(
 ) -> u32
     ensures { λ r. ⌜ Answers (written (commandWith motor kind duration a b) (now (out .entry))) r (now (out .exit)) ⌝ }
 {
-    command::write_numbers(motor, kind, duration, a, b, out)
+    commands::write_numbers(motor, kind, duration, a, b, out)
 }
 
 // The number of a message's type.

@@ -23,10 +23,10 @@ pub fn words_at(s: &[u8], at: usize) -> Words
     ensures { λ r. ⌜ r ≡ wordsAt at (now (s .entry)) ⌝ }
 {
     Words {
-        what: command::get32(s, at),
-        duration: command::get32(s, at + 4),
-        a: command::get32(s, at + 8),
-        b: command::get32(s, at + 12),
+        what: words::get32(s, at),
+        duration: words::get32(s, at + 4),
+        a: words::get32(s, at + 8),
+        b: words::get32(s, at + 12),
     }
 }
 
@@ -35,10 +35,10 @@ pub fn put_words(s: &mut [u8], at: usize, c: Words)
     requires { ⌜ at + 16 ≤ length (now s) ⌝ }
     ensures { λ _. ⌜ now (s .exit) ≡ sets (now (s .entry)) at (wordsBytes c) ⌝ }
 {
-    command::put32(s, at, c.what);
-    command::put32(s, at + 4, c.duration);
-    command::put32(s, at + 8, c.a);
-    command::put32(s, at + 12, c.b);
+    words::put32(s, at, c.what);
+    words::put32(s, at + 4, c.duration);
+    words::put32(s, at + 8, c.a);
+    words::put32(s, at + 12, c.b);
 }
 
 // Writes a row: its number, and its command.
@@ -46,7 +46,7 @@ pub fn put_row(s: &mut [u8], at: usize, number: u32, c: Words)
     requires { ⌜ at + 20 ≤ length (now s) ⌝ }
     ensures { λ _. ⌜ now (s .exit) ≡ sets (now (s .entry)) at (rowWords number c) ⌝ }
 {
-    command::put32(s, at, number);
+    words::put32(s, at, number);
     put_words(s, at + 4, c);
 }
 
@@ -58,7 +58,7 @@ pub fn renumber(s: &mut [u8], from: usize, n: u32, number: u32)
     let mut at = from;
     let mut left = n;
     while 0 < left {
-        command::put32(s, at, number);
+        words::put32(s, at, number);
         at += kinds::ROW;
         left -= 1;
     }
@@ -82,8 +82,8 @@ pub fn are_legal(s: &[u8], from: usize, n: u32, rising: bool, low: u32, high: u3
     let mut at = from;
     let mut left = n;
     while 0 < left {
-        let t = command::get32(s, at);
-        if !((least <= t) & ((t <= high) & command::is_legal_at(s, at + 4))) {
+        let t = words::get32(s, at);
+        if !((least <= t) & ((t <= high) & lawful::is_legal_at(s, at + 4))) {
             return false;
         }
         least = least_behind(rising, t, least);

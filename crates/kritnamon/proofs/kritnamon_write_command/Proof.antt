@@ -1,4 +1,4 @@
--- `kritnamon::kritnamon_write_command` meets its contract: it is `command::write_numbers`, handed the duration as it came. Assumes nothing.
+-- `kritnamon::kritnamon_write_command` meets its contract: it is `commands::write_numbers`, handed the duration as it came. Assumes nothing.
 use mir.Syntax.{w32}
 use mir.Facts.{toZ-ofZ}
 use borrow.Author.Needs.{needs}

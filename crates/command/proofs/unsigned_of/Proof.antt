@@ -1,7 +1,0 @@
--- `command::unsigned_of` meets its contract: the cast keeps a number that is not below zero. Assumes nothing.
-use Rattle.command.proofs.WordsLaws.{cast-kept, cast-unsigned}
-use Rattle.command.proofs.unsigned_of.Statement.{statement}
-use Rattle.command.proofs.unsigned_of.Tie as tie
-
-pub unsigned-of-spec : {M : Type 1} → statement M
-unsigned-of-spec = tie.close (tie.spec (λ c. cast-kept (c .args .duration) (c .fits .duration) (c .pre)) (λ c. cast-unsigned (c .args .duration) (c .fits .duration) (c .pre)))

@@ -1,0 +1,70 @@
+// Whether a command is legal (rules R7 to R9): by its five numbers, by its four words, at a place of a lent slice, and as a slice of its own.
+// Who reads entries, rows or a proposal asks here.
+ghost use mathlib.Core.Path.{_≡_};
+ghost use Prim.Native.Nat.{_+_, _≤_};
+ghost use lib.ListN.{length};
+ghost use Rattle.command.specs.Words.{part};
+ghost use Rattle.command.specs.Command.{legalCommand, command-size, commandOf};
+ghost use Rattle.command.specs.Answers.{ofNumbers, ofWords, numbersAt, isCommand};
+use command::Numbers;
+
+// The bits of gain 1.0, the greatest.
+const GAIN_MOST: u32 = 0x3f80_0000;
+// The longest duration, in ms.
+const DURATION_MOST: u32 = 600_000;
+
+// Whether the command of these numbers is legal.
+pub fn is_legal(n: Numbers) -> bool
+    ensures { λ r. ⌜ r ≡ legalCommand (ofNumbers n) ⌝ }
+{
+    let stop = (n.kind == 0) & ((n.duration == 0) & ((n.a == 0) & (n.b == 0)));
+    let timed = (1 <= n.duration) & (n.duration <= DURATION_MOST);
+    let buzz = (n.kind == 1) & (timed & ((n.a <= GAIN_MOST) & (n.b == 0)));
+    let ramp = (n.kind == 2) & (timed & ((n.a <= GAIN_MOST) & (n.b <= GAIN_MOST)));
+    ((1 <= n.motor) & (n.motor <= 64)) & (stop | (buzz | ramp))
+}
+
+// Whether the command of these four words is legal; motor and kind share the first.
+pub fn legal_words(what: u32, duration: u32, a: u32, b: u32) -> bool
+    ensures { λ r. ⌜ r ≡ legalCommand (ofWords what duration a b) ⌝ }
+{
+    is_legal(Numbers {
+        motor: what / 65536,
+        kind: what % 65536,
+        duration: duration,
+        a: a,
+        b: b,
+    })
+}
+
+// The numbers of the 16 bytes from a place on.
+pub fn numbers_at(s: &[u8], at: usize) -> Numbers
+    requires { ⌜ at + command-size ≤ length (now s) ⌝ }
+    ensures { λ r. ⌜ r ≡ numbersAt at (now (s .entry)) ⌝ }
+{
+    Numbers {
+        motor: words::get16(s, at),
+        kind: words::get16(s, at + 2),
+        duration: words::get32(s, at + 4),
+        a: words::get32(s, at + 8),
+        b: words::get32(s, at + 12),
+    }
+}
+
+// Whether the 16 bytes from a place on are a legal command.
+pub fn is_legal_at(s: &[u8], at: usize) -> bool
+    requires { ⌜ at + command-size ≤ length (now s) ⌝ }
+    ensures { λ r. ⌜ r ≡ legalCommand (commandOf (part at command-size (now (s .entry)))) ⌝ }
+{
+    is_legal(numbers_at(s, at))
+}
+
+// Whether these bytes are a legal command: 16 of them, and legal.
+pub fn is_command(bytes: &[u8]) -> bool
+    ensures { λ r. ⌜ r ≡ isCommand (now (bytes .entry)) ⌝ }
+{
+    if bytes.len() != command::SIZE {
+        return false;
+    }
+    is_legal_at(bytes, 0)
+}
