@@ -5,7 +5,7 @@ use native.Mathlib.Nat.{add-zero}
 use mathlib.Core.Path.{_≡_, refl, sym, _∙_, ap}
 use mathlib.Core.Logic.{⊎-elim}
 use mathlib.Core.Bool.{true, false, _&&_, _||_, and-false}
-use mathlib.Core.List.{List, [], _∷_, _++_, append-assoc, append-nil}
+use mathlib.Core.List.{List, [], _++_, append-assoc, append-nil}
 use borrow.Author.Tests.{leb-true, ltb-true, eqb-true, eq-eqb, ne-eqb, lt-ltb, le-ltb}
 use lib.Dec.{leb, eqb}
 use lib.IntN.{ℤ, pos, negsuc}
@@ -39,7 +39,9 @@ use Rattle.command.specs.Answers.{
   ofWords,
   numbersAt,
   isCommand,
-  readAs,
+  motionRead,
+  judgedOutcome,
+  ReadsCommand,
   listOf,
   numbersOf,
   told,
@@ -166,36 +168,46 @@ module _ (l : List ℕ) where
   pub ofNumbers-whole : length l ≡ 16 → ofNumbers (numbersAt 0 l) ≡ commandOf l
   ofNumbers-whole h = ofNumbers-at 0 l ∙ ap commandOf (part-last 0 16 l (omega arith))
 
-  pub readAs-legal : isCommand l ≡ true → readAs l ≡ Legal (motionOf (commandOf l))
-  unfolding readAs
-  readAs-legal h = rw h
+  motionRead-legal : isCommand l ≡ true → motionRead l ≡ Legal (motionOf (commandOf l))
+  unfolding motionRead
+  motionRead-legal h = rw h
 
-  pub readAs-illegal : isCommand l ≡ false → readAs l ≡ Illegal
-  unfolding readAs
-  readAs-illegal h = rw h
+  motionRead-illegal : isCommand l ≡ false → motionRead l ≡ Illegal
+  unfolding motionRead
+  motionRead-illegal h = rw h
+
+  -- The motion of a legal command is answered, with outcome 0.
+  pub reads-legal : isCommand l ≡ true → ReadsCommand l (Legal (motionOf (commandOf l)))
+  unfolding judgedOutcome
+  reads-legal h = record { answer = sym (motionRead-legal h); outcome = rw h }
+
+  -- Any other bytes are refused, with outcome 10.
+  pub reads-illegal : isCommand l ≡ false → ReadsCommand l Illegal
+  unfolding judgedOutcome
+  reads-illegal h = record { answer = sym (motionRead-illegal h); outcome = rw h }
 
 -- A motion whose command is legal is read back from that command's bytes.
-pub readAs-written : (m : Motion) → Floats (m .case) → legalCommand (commandIs m) ≡ true → readAs (commandBytes (commandIs m)) ≡ Legal m
+pub motionRead-written : (m : Motion) → Floats (m .case) → legalCommand (commandIs m) ≡ true → motionRead (commandBytes (commandIs m)) ≡ Legal m
 unfolding isCommand
-readAs-written m floats legal =
+motionRead-written m floats legal =
     let l = commandBytes (commandIs m) in
     let same : commandOf l ≡ commandIs m =
     rw append-nil at (commandOf-bytes (commandIs m) [] (legal-ranged (commandIs m) legal)) in
     let sized : eqb (length l) command-size ≡ true = eq-eqb (length l) 16 (commandBytes-length (commandIs m)) in
     let is : isCommand l ≡ true = rw (sized, same, legal) in
-    readAs-legal l is ∙ ap Legal (ap motionOf same ∙ motionOf-command m floats)
+    motionRead-legal l is ∙ ap Legal (ap motionOf same ∙ motionOf-command m floats)
 
 -- What is read as a motion is that motion's command's bytes, and legal.
-pub readAs-sound : (l : List ℕ) (m : Motion) → Bytes l → readAs l ≡ Legal m →
+pub motionRead-sound : (l : List ℕ) (m : Motion) → Bytes l → motionRead l ≡ Legal m →
     (commandBytes (commandIs m) ≡ l) × (legalCommand (commandIs m) ≡ true)
-readAs-sound l m bytes h =
+motionRead-sound l m bytes h =
     by-test (isCommand l)
     (λ is.
     let legal = isCommand-legal l is in
-    let e : m ≡ motionOf (commandOf l) = legal-same m (motionOf (commandOf l)) (sym h ∙ readAs-legal l is) in
+    let e : m ≡ motionOf (commandOf l) = legal-same m (motionOf (commandOf l)) (sym h ∙ motionRead-legal l is) in
     let same : commandIs m ≡ commandOf l = ap commandIs e ∙ commandIs-motion (commandOf l) legal in
     (ap commandBytes same ∙ commandBytes-of l (isCommand-length l is) bytes, ap legalCommand same ∙ legal))
-    (λ is-not. absurd (never-illegal m (sym h ∙ readAs-illegal l is-not)))
+    (λ is-not. absurd (never-illegal m (sym h ∙ motionRead-illegal l is-not)))
 
 -- ---- writing
 

@@ -5,7 +5,7 @@ use mathlib.Core.Bool.{Bool, cond, _&&_}
 use mathlib.Core.List.{List, [], _∷_, _++_}
 use mathlib.Core.Path.{_≡_}
 use lib.Dec.{ltb, eqb}
-use lib.IntN.{ℤ, pos}
+use lib.IntN.{ℤ}
 use lib.ListN.{length, drop}
 use Rattle.kinds.specs.Outcome.{done, short-output, bad-command}
 use Rattle.command.specs.Words.{wordAt, signed, unsigned}
@@ -46,14 +46,23 @@ numbersAt at l =
 unfoldable pub isCommand : List ℕ → Bool
 isCommand l = eqb (length l) command-size && legalCommand (commandOf l)
 
--- A legal command's motion; otherwise the answer is outcome 10.
-unfoldable pub readAs : List ℕ → Read
-readAs l = cond (isCommand l) (Legal (motionOf (commandOf l))) Illegal
+-- A legal command's motion; any other bytes are refused.
+unfoldable pub motionRead : List ℕ → Read
+motionRead l = cond (isCommand l) (Legal (motionOf (commandOf l))) Illegal
 
--- The outcome of each case of the answer.
-abbrev pub outcomeOf : Read → ℕ
-outcomeOf (Legal m) = done
-outcomeOf Illegal = bad-command
+-- The outcome of each case of the answer (rule R35).
+abbrev pub commandOutcome : Read → ℕ
+commandOutcome (Legal m) = done
+commandOutcome Illegal = bad-command
+
+-- The outcome of reading: bytes that are no legal command are 10.
+unfoldable pub judgedOutcome : List ℕ → ℕ
+judgedOutcome l = cond (isCommand l) done bad-command
+
+-- The answer r to the bytes l, and its outcome.
+pub record ReadsCommand (l : List ℕ) (r : Read) : Type 0 where
+  pub answer : r ≡ motionRead l
+  pub outcome : commandOutcome r ≡ judgedOutcome l
 
 -- ---- writing
 

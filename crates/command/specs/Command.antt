@@ -1,7 +1,7 @@
 -- Commands (rules R6 to R9): the five numbers of a command, which commands are legal, and the 16 bytes of each. Assumes nothing.
 use Prim.Native.Nat.{ℕ}
 use mathlib.Core.Bool.{Bool, _&&_, _||_}
-use mathlib.Core.List.{List, [], _++_}
+use mathlib.Core.List.{List, _++_}
 use lib.Dec.{leb, eqb}
 use lib.IntN.{ℤ, pos}
 use lib.Signed.{leZ}

@@ -18,7 +18,7 @@ pub struct Motion {
     pub case: Case,
 }
 
-// What reading a command finds. Illegal is outcome 10.
+// What reading a command finds. `commandOutcome` has the outcome of each case.
 pub enum Read {
     Legal(Motion),
     Illegal,

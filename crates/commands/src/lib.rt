@@ -9,7 +9,7 @@ ghost use lib.Seq.{sets};
 ghost use Rattle.command.specs.Words.{unsigned};
 ghost use Rattle.command.specs.Command.{legalCommand, command-size, commandBytes};
 ghost use Rattle.command.specs.Case.{commandIs};
-ghost use Rattle.command.specs.Answers.{ofNumbers, readAs, listOf, told, written, Answers, commandWith};
+ghost use Rattle.command.specs.Answers.{ofNumbers, ReadsCommand, listOf, told, written, Answers, commandWith};
 use command::Motion;
 use command::Numbers;
 use command::Read;
@@ -30,7 +30,7 @@ fn put_numbers(n: Numbers, out: &mut [u8])
 
 // The motion of a command's 16 bytes.
 pub fn read_command(bytes: &[u8]) -> Read
-    ensures { λ r. ⌜ r ≡ readAs (now (bytes .entry)) ⌝ }
+    ensures { λ r. ⌜ ReadsCommand (now (bytes .entry)) r ⌝ }
 {
     if lawful::is_command(bytes) {
         Read::Legal(motion::motion_of(lawful::numbers_at(bytes, 0)))

@@ -1,7 +1,6 @@
 -- `commands::read_numbers` meets its contract: too few numbers are lent, or the bytes are no legal command, or its numbers are put. Assumes nothing.
 use native.Mathlib.Omega.{arith}
 use mathlib.Core.Path.{sym, _∙_, ap}
-use lib.ListN.{length}
 use lib.Seq.{sets}
 use borrow.Author.Tests.{not-true, not-false}
 use Rattle.command.specs.Answers.{listOf}
