@@ -43,11 +43,11 @@ use Rattle.command.specs.Answers.{
   judgedOutcome,
   ReadsCommand,
   listOf,
-  numbersOf,
-  told,
-  Written,
-  written,
-  Answers,
+  asNumbers,
+  numbersRead,
+  CallResult,
+  commandWritten,
+  IsResult,
 }
 use Rattle.command.specs.declared.Numbers.{Numbers}
 use Rattle.command.specs.declared.Read.the-variants.{Legal, Illegal}
@@ -212,19 +212,19 @@ motionRead-sound l m bytes h =
 -- ---- writing
 
 module _ (c : Command) (out : List ℕ) where
-  pub written-short : length out < 16 → Answers (written c out) short-output out
-  unfolding written
-  written-short h = rw (lt-ltb (length out) 16 h) (record { outcome-is = refl; out-is = refl })
+  pub commandWritten-short : length out < 16 → IsResult (commandWritten c out) short-output out
+  unfolding commandWritten
+  commandWritten-short h = rw (lt-ltb (length out) 16 h) (record { outcome-is = refl; out-is = refl })
 
-  pub written-illegal : 16 ≤ length out → legalCommand c ≡ false → Answers (written c out) bad-command out
-  unfolding written
-  written-illegal h no-legal = rw (le-ltb (length out) 16 h, no-legal) (record { outcome-is = refl; out-is = refl })
+  pub commandWritten-illegal : 16 ≤ length out → legalCommand c ≡ false → IsResult (commandWritten c out) bad-command out
+  unfolding commandWritten
+  commandWritten-illegal h no-legal = rw (le-ltb (length out) 16 h, no-legal) (record { outcome-is = refl; out-is = refl })
 
   -- The command that was tested and written may be another form of the same one.
-  pub written-done : {c′ : Command} {out′ : List ℕ} → c′ ≡ c → 16 ≤ length out → legalCommand c′ ≡ true → out′ ≡ sets out 0 (commandBytes c′) →
-      Answers (written c out) done out′
-  unfolding written
-  written-done same h legal wrote =
+  pub commandWritten-done : {c′ : Command} {out′ : List ℕ} → c′ ≡ c → 16 ≤ length out → legalCommand c′ ≡ true → out′ ≡ sets out 0 (commandBytes c′) →
+      IsResult (commandWritten c out) done out′
+  unfolding commandWritten
+  commandWritten-done same h legal wrote =
       let e : sets out 0 (commandBytes c) ≡ commandBytes c ++ drop 16 out =
       rw commandBytes-length at (sets-eq (commandBytes c) out 0 (rw commandBytes-length (omega arith))) in
       rw (le-ltb (length out) 16 h, ap legalCommand (sym same) ∙ legal)
@@ -256,30 +256,30 @@ numbers-written n out h =
 -- ---- reading into lent numbers
 
 -- The numbers of 16 bytes below 256 are those of their command.
-pub numbers-listed : (l : List ℕ) → length l ≡ command-size → Bytes l → listOf (numbersAt 0 l) ≡ numbersOf (commandOf l)
+pub numbers-listed : (l : List ℕ) → length l ≡ command-size → Bytes l → listOf (numbersAt 0 l) ≡ asNumbers (commandOf l)
 unfolding numbersAt commandOf
 numbers-listed l n bytes =
     let fits : wordAt 4 4 l ≤ 4_294_967_295 = omega (arith, wordAt-below 4 4 l (omega arith) bytes) in
     rw (unsigned-signed (wordAt 4 4 l) fits)
 
 module _ (l numbers : List ℕ) where
-  pub told-short : length numbers < 5 → Answers (told l numbers) short-output numbers
-  unfolding told
-  told-short h = rw (lt-ltb (length numbers) 5 h) (record { outcome-is = refl; out-is = refl })
+  pub numbersRead-short : length numbers < 5 → IsResult (numbersRead l numbers) short-output numbers
+  unfolding numbersRead
+  numbersRead-short h = rw (lt-ltb (length numbers) 5 h) (record { outcome-is = refl; out-is = refl })
 
-  pub told-illegal : 5 ≤ length numbers → isCommand l ≡ false → Answers (told l numbers) bad-command numbers
-  unfolding told
-  told-illegal h no-command = rw (le-ltb (length numbers) 5 h, no-command) (record { outcome-is = refl; out-is = refl })
+  pub numbersRead-illegal : 5 ≤ length numbers → isCommand l ≡ false → IsResult (numbersRead l numbers) bad-command numbers
+  unfolding numbersRead
+  numbersRead-illegal h no-command = rw (le-ltb (length numbers) 5 h, no-command) (record { outcome-is = refl; out-is = refl })
 
-  pub told-done : {numbers′ : List ℕ} → 5 ≤ length numbers → Bytes l → isCommand l ≡ true → numbers′ ≡ sets numbers 0 (listOf (numbersAt 0 l)) →
-      Answers (told l numbers) done numbers′
-  unfolding told
-  told-done h bytes is put =
-      let e = sets-eq (numbersOf (commandOf l)) numbers 0 (omega arith) in
+  pub numbersRead-done : {numbers′ : List ℕ} → 5 ≤ length numbers → Bytes l → isCommand l ≡ true → numbers′ ≡ sets numbers 0 (listOf (numbersAt 0 l)) →
+      IsResult (numbersRead l numbers) done numbers′
+  unfolding numbersRead
+  numbersRead-done h bytes is put =
+      let e = sets-eq (asNumbers (commandOf l)) numbers 0 (omega arith) in
       let same = numbers-listed l (isCommand-length l is) bytes in
       rw (le-ltb (length numbers) 5 h, is)
       (record { outcome-is = refl; out-is = put ∙ ap (λ (ns : List ℕ). sets numbers 0 ns) same ∙ e })
 
 -- Two answers that meet a promise are the same.
-pub answers-unique : {w : Written} {r r′ : ℕ} {out out′ : List ℕ} → Answers w r out → Answers w r′ out′ → (r ≡ r′) × (out ≡ out′)
-answers-unique p q = (p .outcome-is ∙ sym (q .outcome-is), p .out-is ∙ sym (q .out-is))
+pub result-unique : {w : CallResult} {r r′ : ℕ} {out out′ : List ℕ} → IsResult w r out → IsResult w r′ out′ → (r ≡ r′) × (out ≡ out′)
+result-unique p q = (p .outcome-is ∙ sym (q .outcome-is), p .out-is ∙ sym (q .out-is))

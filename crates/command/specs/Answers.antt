@@ -67,37 +67,41 @@ pub record ReadsCommand (l : List ℕ) (r : Read) : Type 0 where
 -- ---- writing
 
 -- What a call comes to: an outcome, and what it leaves in what is lent.
-pub record Written : Type 0 where
+pub record CallResult : Type 0 where
   pub outcome : ℕ
   pub out : List ℕ
 
 -- Too short an output is told first, then an illegal command; both leave every byte. Otherwise the first 16 bytes are the command's.
-unfoldable pub written : Command → List ℕ → Written
-written c out =
+unfoldable pub commandWritten : Command → List ℕ → CallResult
+commandWritten c out =
     cond (ltb (length out) command-size) (record { outcome = short-output; out = out })
     (cond (legalCommand c) (record { outcome = done; out = commandBytes c ++ drop command-size out })
     (record { outcome = bad-command; out = out }))
 
 -- ---- reading into lent numbers
 
+-- How many numbers a command has.
+abbrev pub command-numbers : ℕ
+command-numbers = 5
+
 -- The code's five numbers in order: motor, kind, duration, a and b.
 abbrev pub listOf : Numbers → List ℕ
 listOf n = n .motor ∷ n .kind ∷ n .duration ∷ n .a ∷ n .b ∷ []
 
 -- A command's numbers in order. A legal duration is not below zero.
-abbrev pub numbersOf : Command → List ℕ
-numbersOf c = c .motor ∷ c .kind ∷ unsigned (c .duration) ∷ c .a ∷ c .b ∷ []
+abbrev pub asNumbers : Command → List ℕ
+asNumbers c = c .motor ∷ c .kind ∷ unsigned (c .duration) ∷ c .a ∷ c .b ∷ []
 
 -- Fewer than five lent numbers are told first, then a command that is not legal; both leave all numbers.
-unfoldable pub told : List ℕ → List ℕ → Written
-told l numbers =
-    cond (ltb (length numbers) 5) (record { outcome = short-output; out = numbers })
-    (cond (isCommand l) (record { outcome = done; out = numbersOf (commandOf l) ++ drop 5 numbers })
+unfoldable pub numbersRead : List ℕ → List ℕ → CallResult
+numbersRead l numbers =
+    cond (ltb (length numbers) command-numbers) (record { outcome = short-output; out = numbers })
+    (cond (isCommand l) (record { outcome = done; out = asNumbers (commandOf l) ++ drop command-numbers numbers })
     (record { outcome = bad-command; out = numbers }))
 
 -- ---- the promise
 
 -- An answer and what is left in the lent bytes or numbers are as they have to be.
-pub record Answers (w : Written) (outcome : ℕ) (out : List ℕ) : Type 0 where
+pub record IsResult (w : CallResult) (outcome : ℕ) (out : List ℕ) : Type 0 where
   pub outcome-is : outcome ≡ w .outcome
   pub out-is : out ≡ w .out

@@ -9,7 +9,7 @@ ghost use lib.Seq.{sets};
 ghost use Rattle.command.specs.Words.{unsigned};
 ghost use Rattle.command.specs.Command.{legalCommand, command-size, commandBytes};
 ghost use Rattle.command.specs.Case.{commandIs};
-ghost use Rattle.command.specs.Answers.{ofNumbers, ReadsCommand, listOf, told, written, Answers, commandWith};
+ghost use Rattle.command.specs.Answers.{ofNumbers, ReadsCommand, command-numbers, listOf, numbersRead, commandWritten, IsResult, commandWith};
 use command::Motion;
 use command::Numbers;
 use command::Read;
@@ -41,7 +41,7 @@ pub fn read_command(bytes: &[u8]) -> Read
 
 // Writes a motion's 16 bytes at the start of `out`. A refusal (3: too little room; 10: not legal) leaves every byte.
 pub fn write_command(m: Motion, out: &mut [u8]) -> u32
-    ensures { λ r. ⌜ Answers (written (commandIs m) (now (out .entry))) r (now (out .exit)) ⌝ }
+    ensures { λ r. ⌜ IsResult (commandWritten (commandIs m) (now (out .entry))) r (now (out .exit)) ⌝ }
 {
     let case = m.case;
     write_numbers(
@@ -56,7 +56,7 @@ pub fn write_command(m: Motion, out: &mut [u8]) -> u32
 
 // Puts the five numbers into the first five of the lent ones.
 fn put_fields(n: Numbers, numbers: &mut [u32])
-    requires { ⌜ 5 ≤ length (now numbers) ⌝ }
+    requires { ⌜ command-numbers ≤ length (now numbers) ⌝ }
     ensures { λ _. ⌜ now (numbers .exit) ≡ sets (now (numbers .entry)) 0 (listOf n) ⌝ }
 {
     numbers[0] = n.motor;
@@ -69,7 +69,7 @@ fn put_fields(n: Numbers, numbers: &mut [u32])
 // Reads a command's 16 bytes into the first five lent numbers: motor, kind, duration, a and b. A refusal (3: fewer than five numbers
 // lent; 10: not a legal command) leaves them all.
 pub fn read_numbers(bytes: &[u8], numbers: &mut [u32]) -> u32
-    ensures { λ r. ⌜ Answers (told (now (bytes .entry)) (now (numbers .entry))) r (now (numbers .exit)) ⌝ }
+    ensures { λ r. ⌜ IsResult (numbersRead (now (bytes .entry)) (now (numbers .entry))) r (now (numbers .exit)) ⌝ }
 {
     if numbers.len() < FIELDS {
         return kinds::SHORT_OUTPUT;
@@ -92,7 +92,7 @@ fn unsigned_of(duration: i32) -> u32
 // Writes the 16 bytes of the command of these numbers at the start of `out`. A refusal (3: too little room; 10: not legal)
 // leaves every byte.
 pub fn write_numbers(motor: u32, kind: u32, duration: i32, a: u32, b: u32, out: &mut [u8]) -> u32
-    ensures { λ r. ⌜ Answers (written (commandWith motor kind duration a b) (now (out .entry))) r (now (out .exit)) ⌝ }
+    ensures { λ r. ⌜ IsResult (commandWritten (commandWith motor kind duration a b) (now (out .entry))) r (now (out .exit)) ⌝ }
 {
     if out.len() < command::SIZE {
         return kinds::SHORT_OUTPUT;

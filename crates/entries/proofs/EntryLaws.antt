@@ -23,7 +23,7 @@ use Rattle.text.proofs.HexLaws.{Bytes}
 use Rattle.text.proofs.ReaderLaws.{onward-assoc, onward-got, onward-lost}
 use Rattle.text.specs.Found.{Found, FoundNext, FoundNumber, FoundWords}
 use Rattle.text.specs.Hex.{hexBytes}
-use Rattle.text.specs.HexWords.{bytesOf}
+use Rattle.text.specs.HexWords.{wordBytes}
 use Rattle.text.specs.Line.{LF}
 use Rattle.text.specs.Range.{numberIn}
 use Rattle.text.specs.Reader.{Got, got, literal, lost, onward, pure}
@@ -41,26 +41,26 @@ use Rattle.entries.specs.declared.EntryAt.the-variants.{Is as EntryAt·I
 -- ---- a command by its words
 
 -- A word's bytes have its number.
-bytesOf-value : (w : ℕ) → w < 4_294_967_296 → value 0 (bytesOf w) ≡ w
-unfolding bytesOf value
-bytesOf-value w h = omega arith
+wordBytes-value : (w : ℕ) → w < 4_294_967_296 → value 0 (wordBytes w) ≡ w
+unfolding wordBytes value
+wordBytes-value w h = omega arith
 
 -- And are bytes.
-bytesOf-bytes : (w : ℕ) → Bytes (bytesOf w)
-unfolding bytesOf word
-bytesOf-bytes w = word-is-bytes 4 w
+wordBytes-bytes : (w : ℕ) → Bytes (wordBytes w)
+unfolding wordBytes word
+wordBytes-bytes w = word-is-bytes 4 w
 
 module _ (a b c d : ℕ) (ha : a < 4_294_967_296) (hb : b < 4_294_967_296) (hc : c < 4_294_967_296) (hd : d < 4_294_967_296) where
   -- The command of the bytes of four words.
-  pub words-command : commandOf (bytesOf a ++ (bytesOf b ++ (bytesOf c ++ bytesOf d))) ≡ ofWords a b c d
-  unfolding bytesOf wordAt part
+  pub words-command : commandOf (wordBytes a ++ (wordBytes b ++ (wordBytes c ++ wordBytes d))) ≡ ofWords a b c d
+  unfolding wordBytes wordAt part
   words-command =
-      let l = bytesOf a ++ (bytesOf b ++ (bytesOf c ++ bytesOf d)) in
-      let bytes : Bytes l = append-bytes (bytesOf a) (bytesOf b ++ (bytesOf c ++ bytesOf d)) (bytesOf-bytes a) (append-bytes (bytesOf b) (bytesOf c ++ bytesOf d) (bytesOf-bytes b) (append-bytes (bytesOf c) (bytesOf d) (bytesOf-bytes c) (bytesOf-bytes d))) in
-      let ea : wordAt 0 4 l ≡ a = bytesOf-value a ha in
-      let eb : wordAt 4 4 l ≡ b = bytesOf-value b hb in
-      let ec : wordAt 8 4 l ≡ c = bytesOf-value c hc in
-      let ed : wordAt 12 4 l ≡ d = bytesOf-value d hd in
+      let l = wordBytes a ++ (wordBytes b ++ (wordBytes c ++ wordBytes d)) in
+      let bytes : Bytes l = append-bytes (wordBytes a) (wordBytes b ++ (wordBytes c ++ wordBytes d)) (wordBytes-bytes a) (append-bytes (wordBytes b) (wordBytes c ++ wordBytes d) (wordBytes-bytes b) (append-bytes (wordBytes c) (wordBytes d) (wordBytes-bytes c) (wordBytes-bytes d))) in
+      let ea : wordAt 0 4 l ≡ a = wordBytes-value a ha in
+      let eb : wordAt 4 4 l ≡ b = wordBytes-value b hb in
+      let ec : wordAt 8 4 l ≡ c = wordBytes-value c hc in
+      let ed : wordAt 12 4 l ≡ d = wordBytes-value d hd in
       sym (ofWords-of l refl bytes) ∙ (λ i. ofWords (ea i) (eb i) (ec i) (ed i))
 
 -- ---- one line
@@ -100,7 +100,7 @@ module _ (s : List ℕ) (at low high : ℕ) where
           line-inside = words-are s _ w found3 a b c d m e3 .inside
 
           module _ (l : Next) (found4 : FoundNext s (literal LF (drop m s)) l) where
-            from-words : entryLine low high (drop at s) ≡ onward (literal LF (drop m s)) (λ z v. got (record { term = x; command = commandOf (bytesOf a ++ (bytesOf b ++ (bytesOf c ++ bytesOf d))) }) v)
+            from-words : entryLine low high (drop at s) ≡ onward (literal LF (drop m s)) (λ z v. got (record { term = x; command = commandOf (wordBytes a ++ (wordBytes b ++ (wordBytes c ++ wordBytes d))) }) v)
             from-words = from-term ∙ onward-got _ (words-are s _ w found3 a b c d m e3 .read)
 
             -- The line does not end there.

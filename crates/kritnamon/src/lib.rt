@@ -3,11 +3,11 @@ ghost use mathlib.Core.Path.{_≡_};
 ghost use Prim.Native.Nat.{_≤_};
 ghost use lib.ListN.{length};
 ghost use lib.Seq.{sets};
-ghost use Rattle.command.specs.Answers.{Answers, written, told, commandWith};
+ghost use Rattle.command.specs.Answers.{IsResult, commandWritten, numbersRead, commandWith};
 ghost use Rattle.kinds.specs.Sizes.{limit, text-room};
 ghost use Rattle.state.specs.Image.{state-size};
 ghost use Rattle.rules.specs.Step.{stepOf};
-ghost use Rattle.promise.specs.Promise.{Answers as Takes, call};
+ghost use Rattle.promise.specs.Promise.{Answers, call};
 ghost use Rattle.rules.specs.Report.{Reports, reportOf, chosenOf};
 ghost use Rattle.kritnamon.specs.Message.{Tells, tells};
 ghost use Rattle.kritnamon.specs.Numbers.{kindIn, ownIn, numbersIn};
@@ -39,7 +39,7 @@ const VERSION: u32 = 10000;
 // lent; 10: not a legal command) leaves them all.
 #[no_mangle]
 pub extern "C" fn kritnamon_read_command(bytes: &[u8], numbers: &mut [u32]) -> u32
-    ensures { λ r. ⌜ Answers (told (now (bytes .entry)) (now (numbers .entry))) r (now (numbers .exit)) ⌝ }
+    ensures { λ r. ⌜ IsResult (numbersRead (now (bytes .entry)) (now (numbers .entry))) r (now (numbers .exit)) ⌝ }
 {
     commands::read_numbers(bytes, numbers)
 }
@@ -54,7 +54,7 @@ pub extern "C" fn kritnamon_write_command(
     b: u32,
     out: &mut [u8],
 ) -> u32
-    ensures { λ r. ⌜ Answers (written (commandWith motor kind duration a b) (now (out .entry))) r (now (out .exit)) ⌝ }
+    ensures { λ r. ⌜ IsResult (commandWritten (commandWith motor kind duration a b) (now (out .entry))) r (now (out .exit)) ⌝ }
 {
     commands::write_numbers(motor, kind, duration, a, b, out)
 }
@@ -284,7 +284,7 @@ pub extern "C" fn kritnamon_step(
     input: &[u8],
     out: &mut [u8],
 ) -> u64
-    ensures { λ r. ⌜ Takes (stepOf (call n own event a b (now (state .entry)) (now (input .entry)) (now (out .entry)))) r (now (state .exit)) (now (out .exit)) ⌝ }
+    ensures { λ r. ⌜ Answers (stepOf (call n own event a b (now (state .entry)) (now (input .entry)) (now (out .entry)))) r (now (state .exit)) (now (out .exit)) ⌝ }
 {
     let g = Caller {
         size: n,

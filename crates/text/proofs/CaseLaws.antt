@@ -3,7 +3,7 @@ use Prim.Native.Nat.{ℕ}
 use mathlib.Core.List.{List, _++_}
 use mathlib.Core.Path.{_≡_, subst}
 use Rattle.text.specs.Found.{Found, FoundNext, FoundNumber, FoundWord, FoundWords}
-use Rattle.text.specs.HexWords.{bytesOf}
+use Rattle.text.specs.HexWords.{wordBytes}
 use Rattle.text.specs.Reader.{Got, lost}
 use Rattle.text.specs.declared.Next.{Next}
 use Rattle.text.specs.declared.Next.the-variants.{At, Bad as Next·Bad}
@@ -37,7 +37,7 @@ module _ (s : List ℕ) (g : Got ℕ) (r : Number) (found : FoundNumber s g r) w
 -- A word whose digits end at the place n.
 module _ (s : List ℕ) (n : ℕ) (g : Got (List ℕ)) (r : Word) (found : FoundWord s n g r) where
   -- It was found.
-  pub word-is : (w : ℕ) → r ≡ Word·Is w → Found s g (bytesOf w) n
+  pub word-is : (w : ℕ) → r ≡ Word·Is w → Found s g (wordBytes w) n
   word-is w e = subst (λ (a : Word). FoundWord s n g a) e found
 
   -- There is none.
@@ -47,7 +47,7 @@ module _ (s : List ℕ) (n : ℕ) (g : Got (List ℕ)) (r : Word) (found : Found
 -- Four words.
 module _ (s : List ℕ) (g : Got (List ℕ)) (r : Words) (found : FoundWords s g r) where
   -- They were found.
-  pub words-are : (a b c d n : ℕ) → r ≡ Words·Are a b c d n → Found s g (bytesOf a ++ (bytesOf b ++ (bytesOf c ++ bytesOf d))) n
+  pub words-are : (a b c d n : ℕ) → r ≡ Words·Are a b c d n → Found s g (wordBytes a ++ (wordBytes b ++ (wordBytes c ++ wordBytes d))) n
   words-are a b c d n e = subst (λ (x : Words). FoundWords s g x) e found
 
   -- There are none.

@@ -13,7 +13,7 @@ use Rattle.kinds.specs.Sizes.{between}
 use Rattle.text.specs.Decimal.{isDigit}
 use Rattle.text.specs.Found.{Found, FoundWord}
 use Rattle.text.specs.Hex.{hexDigit, nibble, hex, hexByte, hexBytes}
-use Rattle.text.specs.HexWords.{no-digit, digitOf, IsTable, pairAt, bytesOf}
+use Rattle.text.specs.HexWords.{no-digit, digitOf, IsTable, pairAt, wordBytes}
 use Rattle.text.specs.Reader.{Got, got, lost, onward, pure}
 use Rattle.text.specs.declared.Word.{Word}
 use Rattle.text.specs.declared.Word.the-variants.{Is as Word·Is, Bad as Word·Bad}
@@ -123,15 +123,15 @@ pairs-bad s (suc n) at h g =
 -- ---- a word
 
 -- The bytes of a word that four bytes were joined to.
-bytesOf-joined
+wordBytes-joined
     : (a b c d : ℕ)
     → a < 256
     → b < 256
     → c < 256
     → d < 256
-    → bytesOf (a * 16777216 + b * 65536 + c * 256 + d) ≡ a ∷ b ∷ c ∷ d ∷ []
-unfolding bytesOf
-bytesOf-joined a b c d ha hb hc hd =
+    → wordBytes (a * 16777216 + b * 65536 + c * 256 + d) ≡ a ∷ b ∷ c ∷ d ∷ []
+unfolding wordBytes
+wordBytes-joined a b c d ha hb hc hd =
     let w = a * 16777216 + b * 65536 + c * 256 + d in
     let ea : w / 256 / 256 / 256 % 256 ≡ a = omega arith in
     let eb : w / 256 / 256 % 256 ≡ b = omega arith in
@@ -163,10 +163,10 @@ module _ (s : List ℕ) (at : ℕ) where
       word-bytes = let is = hex-sound 4 (drop at s) bytes .bytes in (is 0, is 1, is 2, is 3)
 
       -- And they are the bytes of their word.
-      pub word-good : (w : ℕ) → w ≡ a * 16777216 + b * 65536 + c * 256 + d → Found s (hexBytes 4 (drop at s)) (bytesOf w) (at + 8)
+      pub word-good : (w : ℕ) → w ≡ a * 16777216 + b * 65536 + c * 256 + d → Found s (hexBytes 4 (drop at s)) (wordBytes w) (at + 8)
       word-good w e =
           let is = word-bytes in
-          record { inside = room; read = rw (e, bytesOf-joined a b c d (is .0) (is .1) (is .2) (is .3)) bytes }
+          record { inside = room; read = rw (e, wordBytes-joined a b c d (is .0) (is .1) (is .2) (is .3)) bytes }
 
 -- ---- bytes one after the other
 
@@ -235,7 +235,7 @@ module _ (s : List ℕ) (at : ℕ) where
     words-1 e = hex-none 4 12 s at (word-none s _ _ r1 f1 e)
 
     module _ (a : ℕ) (e1 : r1 ≡ Word·Is a) (r2 : Word) (f2 : FoundWord s (at + 8 + 8) (hexBytes 4 (drop (at + 8) s)) r2) where
-      first : Found s (hexBytes 4 (drop at s)) (bytesOf a) (at + 8)
+      first : Found s (hexBytes 4 (drop at s)) (wordBytes a) (at + 8)
       first = word-is s _ _ r1 f1 a e1
 
       -- The second is none.
@@ -243,7 +243,7 @@ module _ (s : List ℕ) (at : ℕ) where
       words-2 e = hex-others 4 12 s at _ _ first (hex-none 4 8 s (at + 8) (word-none s _ _ r2 f2 e))
 
       module _ (b : ℕ) (e2 : r2 ≡ Word·Is b) (r3 : Word) (f3 : FoundWord s (at + 16 + 8) (hexBytes 4 (drop (at + 16) s)) r3) where
-        second : Found s (hexBytes 4 (drop (at + 8) s)) (bytesOf b) (at + 16)
+        second : Found s (hexBytes 4 (drop (at + 8) s)) (wordBytes b) (at + 16)
         second = let z : at + 8 + 8 ≡ at + 16 = omega arith in rw z at (word-is s _ _ r2 f2 b e2)
 
         -- The third is none.
@@ -253,7 +253,7 @@ module _ (s : List ℕ) (at : ℕ) where
             (hex-others 4 8 s (at + 8) _ _ second (hex-none 4 4 s (at + 16) (word-none s _ _ r3 f3 e)))
 
         module _ (c : ℕ) (e3 : r3 ≡ Word·Is c) (r4 : Word) (f4 : FoundWord s (at + 24 + 8) (hexBytes 4 (drop (at + 24) s)) r4) where
-          third : Found s (hexBytes 4 (drop (at + 16) s)) (bytesOf c) (at + 24)
+          third : Found s (hexBytes 4 (drop (at + 16) s)) (wordBytes c) (at + 24)
           third = let z : at + 16 + 8 ≡ at + 24 = omega arith in rw z at (word-is s _ _ r3 f3 c e3)
 
           -- The fourth is none.
@@ -264,10 +264,10 @@ module _ (s : List ℕ) (at : ℕ) where
               (hex-others 4 4 s (at + 16) _ _ third (word-none s _ _ r4 f4 e)))
 
           -- All are words.
-          pub words-all : (d : ℕ) → r4 ≡ Word·Is d → Found s (hexBytes 16 (drop at s)) (bytesOf a ++ (bytesOf b ++ (bytesOf c ++ bytesOf d))) (at + 32)
+          pub words-all : (d : ℕ) → r4 ≡ Word·Is d → Found s (hexBytes 16 (drop at s)) (wordBytes a ++ (wordBytes b ++ (wordBytes c ++ wordBytes d))) (at + 32)
           words-all d e =
               let z : at + 24 + 8 ≡ at + 32 = omega arith in
-              let fourth : Found s (hexBytes 4 (drop (at + 24) s)) (bytesOf d) (at + 32) = rw z at (word-is s _ _ r4 f4 d e) in
+              let fourth : Found s (hexBytes 4 (drop (at + 24) s)) (wordBytes d) (at + 32) = rw z at (word-is s _ _ r4 f4 d e) in
               hex-both 4 12 s at _ _ first _ _
               (hex-both 4 8 s (at + 8) _ _ second _ _ (hex-both 4 4 s (at + 16) _ _ third _ _ fourth))
 

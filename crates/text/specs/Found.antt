@@ -4,7 +4,7 @@ use Prim.Native.Nat.{ℕ, _≤_}
 use mathlib.Core.List.{List, _++_}
 use mathlib.Core.Path.{_≡_}
 use lib.ListN.{length, drop}
-use Rattle.text.specs.HexWords.{bytesOf}
+use Rattle.text.specs.HexWords.{wordBytes}
 use Rattle.text.specs.Reader.{Got, got, lost}
 use Rattle.text.specs.declared.Next.{Next}
 use Rattle.text.specs.declared.Next.the-variants.{At, Bad as Next·Bad}
@@ -32,10 +32,10 @@ FoundNumber s g Number·Bad = g ≡ lost
 
 -- Four bytes, as a word.
 abbrev pub FoundWord : List ℕ → ℕ → Got (List ℕ) → Word → Type 0
-FoundWord s n g (Word·Is w) = Found s g (bytesOf w) n
+FoundWord s n g (Word·Is w) = Found s g (wordBytes w) n
 FoundWord s n g Word·Bad = g ≡ lost
 
 -- Sixteen bytes, as four words.
 abbrev pub FoundWords : List ℕ → Got (List ℕ) → Words → Type 0
-FoundWords s g (Are a b c d n) = Found s g (bytesOf a ++ (bytesOf b ++ (bytesOf c ++ bytesOf d))) n
+FoundWords s g (Are a b c d n) = Found s g (wordBytes a ++ (wordBytes b ++ (wordBytes c ++ wordBytes d))) n
 FoundWords s g Words·Bad = g ≡ lost

@@ -23,5 +23,5 @@ unfoldable pub pairAt : List ℕ → ℕ → ℕ
 pairAt s at = digitOf (getD s at 0) * 16 + digitOf (getD s (at + 1) 0)
 
 -- The four bytes of a word, big-endian.
-unfoldable pub bytesOf : ℕ → List ℕ
-bytesOf w = w / 256 / 256 / 256 % 256 ∷ w / 256 / 256 % 256 ∷ w / 256 % 256 ∷ w % 256 ∷ []
+unfoldable pub wordBytes : ℕ → List ℕ
+wordBytes w = w / 256 / 256 / 256 % 256 ∷ w / 256 / 256 % 256 ∷ w / 256 % 256 ∷ w % 256 ∷ []
