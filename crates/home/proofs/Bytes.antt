@@ -22,13 +22,13 @@ use Rattle.rules.specs.Receive.{receive}
 use Rattle.rules.specs.Happens.{Occasion, to-start, to-propose, to-send, to-restart, to-receive, happens}
 use Rattle.rows.proofs.BoolLaws.{and-first, and-second, cond-either}
 use Rattle.paxos.proofs.Member.{clash}
-use Rattle.home.specs.Hub.{isRestart, textFor, commandFor, messageOf, commandOf}
+use Rattle.home.specs.Hub.{isRestart, textFor, commandFor, messageOf, proposalOf}
 
 -- ---- what a call brings
 
 -- The call brings this event, with its command and its message.
 pub record Brings (c : Call) (o : Occasion) : Type 0 where
-  pub asks : commandFor (eventOf (c .event)) (c .input) ≡ commandOf o
+  pub asks : commandFor (eventOf (c .event)) (c .input) ≡ proposalOf o
   pub reads : (m : Message) → messageOf o ≡ some m → (textFor (eventOf (c .event)) (c .input) ≡ some (c .input)) × (read (c .input) ≡ some m)
 
 -- A text that is read is heard.

@@ -32,7 +32,7 @@ use Rattle.engine.specs.Home.{joining, adding, after, Fair}
 use Rattle.engine.specs.Rules.{Household, met, Heard}
 use Rattle.engine.specs.Written as writing
 use Rattle.engine.specs.Written.{Becomes, stays, meets}
-use Rattle.home.specs.Hub.{Deed, callFor, isRestart, textFor, commandFor, commandOf, hub-engine, Home, hub-rules, hub-writing}
+use Rattle.home.specs.Hub.{Deed, callFor, isRestart, textFor, commandFor, proposalOf, hub-engine, Home, hub-rules, hub-writing}
 use Rattle.home.proofs.Bytes.{Brings, brings-start, brings-propose, brings-send, brings-restart, brings-receive, Sees, refused-not, seen-image, seen-kept, step-acts, step-either}
 use Rattle.home.proofs.Events as events
 use Rattle.home.proofs.Events.{Stands}
@@ -137,7 +137,7 @@ module _ (G : Group) (group : isGroup G ≡ true) (H : Home) (W : Household hub-
             (t, subst (λ (l : List (List ℕ)). t ∈ l) (sym sent) among, r);
         orders =
             ap (λ (c : Option Command). cond (eqb (n .outcome) done) (adding c (H .orders)) (H .orders)) (b .asks)
-            ∙ ap (λ (l : List Command). cond (eqb (n .outcome) done) (adding (commandOf o) l) l) (is .orders);
+            ∙ ap (λ (l : List Command). cond (eqb (n .outcome) done) (adding (proposalOf o) l) l) (is .orders);
       }
 
 -- ---- a deed that may happen

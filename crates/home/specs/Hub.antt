@@ -113,12 +113,12 @@ messageOf to-restart = none
 messageOf (to-receive m) = some m
 
 -- The command that it is asked to propose.
-abbrev pub commandOf : Occasion → Option Command
-commandOf to-start = none
-commandOf (to-propose bytes) = readProposal bytes
-commandOf (to-send peer prev) = none
-commandOf to-restart = none
-commandOf (to-receive m) = none
+abbrev pub proposalOf : Occasion → Option Command
+proposalOf to-start = none
+proposalOf (to-propose bytes) = readProposal bytes
+proposalOf (to-send peer prev) = none
+proposalOf to-restart = none
+proposalOf (to-receive m) = none
 
 -- The rules.
 abbrev pub hub-rules : Rules Command
@@ -133,7 +133,7 @@ hub-rules =
           let n = happens (hubOf G h) s o in
           record { took-effect = eqb (n .outcome) done; state = n .state; message = n .message };
       hears = messageOf;
-      asks = commandOf;
+      asks = proposalOf;
     }
 
 -- How states are written and texts are read.
