@@ -18,7 +18,7 @@ pub fn term_of(g: Caller, h: Head, p: Place, state: &[u8]) -> Term
     requires { ⌜ Tested (whoIn g) h (now state) × (1 ≤ p .0) × (p .0 ≤ h .length .0) ⌝ }
     ensures { λ r. ⌜ r ≡ term (termAt (stateIn (now (state .entry)) .kept .log) (p .0)) ⌝ }
 {
-    Term::of(command::get32(state, head::row_at(p.number() - 1)))
+    Term::of(words::get32(state, head::row_at(p.number() - 1)))
 }
 
 // Prev is 0, or prev ≤ length and the entry there has term prevterm.

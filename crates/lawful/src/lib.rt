@@ -17,11 +17,16 @@ const DURATION_MOST: u32 = 600_000;
 pub fn is_legal(n: Numbers) -> bool
     ensures { λ r. ⌜ r ≡ legalCommand (ofNumbers n) ⌝ }
 {
-    let stop = (n.kind == 0) & ((n.duration == 0) & ((n.a == 0) & (n.b == 0)));
-    let timed = (1 <= n.duration) & (n.duration <= DURATION_MOST);
-    let buzz = (n.kind == 1) & (timed & ((n.a <= GAIN_MOST) & (n.b == 0)));
-    let ramp = (n.kind == 2) & (timed & ((n.a <= GAIN_MOST) & (n.b <= GAIN_MOST)));
-    ((1 <= n.motor) & (n.motor <= 64)) & (stop | (buzz | ramp))
+    if 2 < n.kind {
+        return false;
+    }
+    // The limits by kind: a stop has no duration and no gains, a buzz has no second gain. So no branch depends on the kind, which nobody can foretell.
+    let one = (n.kind + 1) / 2;
+    let two = n.kind / 2;
+    let motor = (1 <= n.motor) & (n.motor <= 64);
+    let duration = (one <= n.duration) & (n.duration <= one * DURATION_MOST);
+    let gains = (n.a <= one * GAIN_MOST) & (n.b <= two * GAIN_MOST);
+    motor & (duration & gains)
 }
 
 // Whether the command of these four words is legal; motor and kind share the first.
