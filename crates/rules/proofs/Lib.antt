@@ -12,4 +12,3 @@ pub mod ReceiveLaws
 pub mod Theorems
 pub mod StepLaws
 pub mod Computed
-pub mod Cases

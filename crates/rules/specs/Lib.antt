@@ -7,5 +7,4 @@ pub mod Happens
 pub mod Theorems
 pub mod Row
 pub mod Samples
-pub mod Cases
 pub mod Report

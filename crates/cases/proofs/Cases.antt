@@ -1,7 +1,7 @@
 -- The cases of rule R39, computed. Assumes nothing.
 use mathlib.Core.Path.{refl}
-use Rattle.rules.specs.Cases.{table, CasesHold}
+use Rattle.cases.specs.Cases.{table, CasesHold}
 use Rattle.rules.proofs.Computed.{computed}
 
 -- The twelve starred cases.
 pub cases-hold : CasesHold
