@@ -109,7 +109,7 @@ numbers-slotted m = own-slotted (m .term) (m .from) (m .to) (m .body)
 -- ---- from a type, numbers and entries, and back
 
 -- No entries.
-none-left : (es : List Entry) → length es ≡ 0 → _≡_ {A = List Entry} [] es
+pub none-left : (es : List Entry) → length es ≡ 0 → _≡_ {A = List Entry} [] es
 none-left [] h = refl
 none-left (e ∷ es) h = absurd (omega arith)
 

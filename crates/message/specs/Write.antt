@@ -7,21 +7,16 @@ use lib.ListN.{length}
 use Rattle.kinds.specs.Sizes.{text-room, row-size}
 use Rattle.message.specs.Message.{Message}
 use Rattle.message.specs.Legal.{legalMessage}
-use Rattle.message.specs.Fields.{countIn, messageOf}
-use Rattle.message.specs.Answer.{openingOf}
+use Rattle.message.specs.Answer.{manyIn, messageBy}
 use Rattle.message.specs.Rows.{rowEntries}
 use Rattle.message.specs.declared.Fields.{Fields}
 
--- How many entries follow these fields.
-unfoldable pub countOf : Fields → ℕ
-countOf f = countIn (openingOf f .type) (openingOf f .numbers)
-
 -- The message of these fields, with the entries of the first rows.
 unfoldable pub messageWith : Fields → List ℕ → Message
-messageWith f rows = messageOf (openingOf f .type) (openingOf f .numbers) (rowEntries (countOf f) rows)
+messageWith f rows = messageBy f (rowEntries (manyIn (f .body)) rows)
 
 -- What holds where a message is put into an output: it is legal, there are rows for its entries, and the output has an output's room.
 pub record Puts (f : Fields) (rows out : List ℕ) : Type 0 where
   pub legal : legalMessage (messageWith f rows) ≡ true
-  pub held : countOf f * row-size ≤ length rows
+  pub held : manyIn (f .body) * row-size ≤ length rows
   pub room : text-room ≤ length out

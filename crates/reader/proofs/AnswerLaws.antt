@@ -13,12 +13,11 @@ use Rattle.command.specs.Entry.{Entry, legalEntries}
 use Rattle.kinds.specs.Sizes.{text-room}
 use Rattle.text.proofs.CaseLaws.{next-at, next-bad}
 use Rattle.lines.proofs.CaseLaws.{fields-are, fields-bad}
-use Rattle.message.proofs.FieldsLaws.{entriesOf-messageOf}
 use Rattle.reader.proofs.WholeLaws.{entriesAfter, messageIn-opening}
 use Rattle.message.proofs.RangeLaws.{entriesIn-is, kept, messageIn-whole}
 use Rattle.message.proofs.TextLaws.{entries-sound}
-use Rattle.message.specs.Answer.{openingOf}
-use Rattle.message.proofs.AnswerLaws.{fields-back}
+use Rattle.message.specs.Answer.{manyIn, messageBy, openingOf}
+use Rattle.message.proofs.AnswerLaws.{entriesOf-said, fields-back, manyIn-count, messageBy-numbers}
 use Rattle.entries.specs.Span.{spanOf}
 use Rattle.reader.specs.Answer.{outcomeOf, readAs, readOutcome, Reads}
 use Rattle.message.specs.Fields.{messageOf}
@@ -115,10 +114,10 @@ module _ (s : List ℕ) (fits : length s ≤ 16_384) (r : FieldsAt) (found : Fou
         entered = went .first ∙ ap (got (went .value)) (got-rest (went .next))
 
         abbrev said : Said
-        said = messageOf (openingOf f .type) (openingOf f .numbers) (went .value)
+        said = messageBy f (went .value)
 
         message-is : messageIn s ≡ got said (drop end s)
-        message-is = from-opening ∙ onward-got _ entered
+        message-is = from-opening ∙ onward-got _ entered ∙ ap (λ (m : Said). got m (drop end s)) (sym (messageBy-numbers f (went .value)))
 
         -- More text follows.
         pub read-more : (end ≡ length s → ⊥) → Refused ≡ readAs s (read s)
@@ -137,10 +136,11 @@ module _ (s : List ℕ) (fits : length s ≤ 16_384) (r : FieldsAt) (found : Fou
             let g : entriesIn (spanOf o .count) (spanOf o .low) (spanOf o .high) (drop n s) ≡ got es [] = entered ∙ ap (got es) none-left in
             let are = entries-sound (spanOf o .count) (drop n s) (entries-plain (spanOf o .count) (spanOf o .low) (spanOf o .high) (drop n s) g) in
             let is : read s ≡ some said = ranged ∙ whole-got (message-is ∙ ap (got said) none-left) in
-            let held : entriesOf (said .body) ≡ es = entriesOf-messageOf (o .type) (o .numbers) es (are .count) in
+            let many : length es ≡ manyIn (f .body) = are .count ∙ sym (manyIn-count f) in
+            let held : entriesOf (said .body) ≡ es = entriesOf-said (f .body) es many in
             let l : length (drop n s) ≡ length (entriesText es) = ap length (are .split) ∙ ap length (append-nil (entriesText es)) in
             let p : n ≡ length s - length (entriesText (entriesOf (said .body))) = rw held (omega (arith, l, length-drop n s, read-inside)) in
-            ap₂ (λ (x : Fields) (m : ℕ). Read·Message x m) (sym (fields-back f es (are .count))) p ∙ ap (readAs s) (sym is)
+            ap₂ (λ (x : Fields) (m : ℕ). Read·Message x m) (sym (fields-back f es many)) p ∙ ap (readAs s) (sym is)
 
 -- ---- the part that holds the entry lines
 

@@ -2,7 +2,7 @@
 -- part. Assumes nothing.
 use Prim.Native.Nat.{ℕ, suc, _+_, _*_, _≤_}
 use native.Mathlib.Omega.{arith}
-use mathlib.Core.Path.{_≡_, refl, _∙_, ap}
+use mathlib.Core.Path.{_≡_, refl, sym, _∙_, ap}
 use mathlib.Core.List.{List, [], _∷_, _++_, append-assoc, append-nil}
 use lib.ListN.{length}
 use Rattle.kinds.specs.declared.Place.{Place}
@@ -25,21 +25,19 @@ use Rattle.message.specs.Fields.{
   to=,
   ownFields,
   fields,
-  countIn,
-  messageOf,
 }
 use Rattle.message.specs.Text.{type=, name, linesText, entriesText, text}
-use Rattle.message.specs.Answer.{typeIn, ownIn, openingOf}
+use Rattle.message.specs.Answer.{typeIn, ownIn, openingOf, manyIn, messageBy}
 use Rattle.entries.specs.Span.{spanOf}
 use Rattle.rows.specs.Rows.{entryOf}
 use Rattle.rows.proofs.RowLaws.{rowsIn-length}
 use Rattle.message.specs.Rows.{rowEntries}
-use Rattle.message.specs.Write.{countOf, messageWith, Puts}
+use Rattle.message.specs.Write.{messageWith, Puts}
 use Rattle.message.specs.declared.Body.{Body}
 use Rattle.message.specs.declared.Body.the-variants.{VoteRequest, VoteYes, VoteNo, Append, AppendYes, AppendNo}
 use Rattle.message.specs.declared.Fields.{Fields}
 use Rattle.entries.specs.declared.Span.{Span}
-use Rattle.message.proofs.FieldsLaws.{Slotted, typeOf-messageOf, entriesOf-messageOf, numbers-messageOf}
+use Rattle.message.proofs.AnswerLaws.{manyIn-count, typeOf-said, entriesOf-said, numbers-messageBy}
 use Rattle.message.proofs.ReadLaws.{text-most}
 use Rattle.entries.proofs.RowsLaws.{room-first, room-next}
 use Rattle.writer.specs.Parts.{twoLines, typeText, headText, ownText}
@@ -128,24 +126,11 @@ length-line n p = rw p (simp append-nil)
 
 -- ---- the whole text
 
-own-slotted : (term from to : ℕ) (b : Body) → Slotted (typeIn b) (term ∷ from ∷ to ∷ ownIn b)
-unfolding fields ownFields
-own-slotted term from to (VoteRequest last ballot) = refl
-own-slotted term from to (VoteYes last ballot count) = refl
-own-slotted term from to VoteNo = refl
-own-slotted term from to (Append prev prevterm chosen count) = refl
-own-slotted term from to (AppendYes end) = refl
-own-slotted term from to (AppendNo n) = refl
-
--- The numbers of the fields stand in their slots, and no other is taken.
-numbers-slotted : (f : Fields) → Slotted (openingOf f .type) (openingOf f .numbers)
-numbers-slotted f = own-slotted (f .term .0) (f .from .0) (f .to .0) (f .body)
-
--- The text of the message of a type, numbers and entries.
-text-of : (t : MessageType) (ns : List ℕ) (es : List Entry) → Slotted t ns → length es ≡ countIn t ns
-    → text (messageOf t ns es) ≡ type= ++ (name t ++ (LF ++ (linesText (fields t) ns ++ entriesText es)))
+-- The text of the message of fields with as many entries as they count.
+text-of : (f : Fields) (es : List Entry) → length es ≡ manyIn (f .body)
+    → text (messageBy f es) ≡ type= ++ (name (typeIn (f .body)) ++ (LF ++ (linesText (fields (typeIn (f .body))) (openingOf f .numbers) ++ entriesText es)))
 unfolding text
-text-of t ns es n h = rw (typeOf-messageOf t ns es, numbers-messageOf t ns es n h, entriesOf-messageOf t ns es h)
+text-of f es h = rw (typeOf-said (f .body) es, numbers-messageBy f es h, entriesOf-said (f .body) es h)
 
 -- A type's own lines have nothing to do with term, from and to.
 own-lines : (t : MessageType) (term from to : ℕ) (own : List ℕ) → linesText (ownFields t) (term ∷ from ∷ to ∷ own) ≡ linesText (ownFields t) (0 ∷ 0 ∷ 0 ∷ own)
@@ -166,7 +151,7 @@ lines-split t term from to own = rw (← own-lines t term from to own) (simp app
 
 -- What follows the lines before it: the entry lines, the type's own lines with them, and the head with both.
 abbrev entryLines : Fields → List ℕ → List ℕ
-entryLines f rows = entriesText (rowEntries (countOf f) rows)
+entryLines f rows = entriesText (rowEntries (manyIn (f .body)) rows)
 
 abbrev fromOwn : Fields → List ℕ → List ℕ
 fromOwn f rows = ownText (f .body) ++ entryLines f rows
@@ -176,15 +161,15 @@ fromHead f rows = headText f ++ fromOwn f rows
 
 -- The parts, one behind the other, are the text.
 parts-text : (f : Fields) (rows : List ℕ) → text (messageWith f rows) ≡ typeText (f .body) ++ fromHead f rows
-unfolding messageWith countOf typeText headText ownText
+unfolding messageWith typeText headText ownText
 parts-text f rows =
-    text-of (openingOf f .type) (openingOf f .numbers) (rowEntries (countOf f) rows) (numbers-slotted f) (rowsIn-length entryOf (countOf f) rows)
+    text-of f (rowEntries (manyIn (f .body)) rows) (rowsIn-length entryOf (manyIn (f .body)) rows)
     ∙ rw (lines-split (typeIn (f .body)) (f .term .0) (f .from .0) (f .to .0) (ownIn (f .body))) (simp append-assoc)
 
 -- The count of the span is the count of the fields.
-pub span-count : (f : Fields) {s : Span} → s ≡ spanOf (openingOf f) → s .count ≡ countOf f
-unfolding spanOf countOf
-span-count f e = ap (λ (s : Span). s .count) e
+pub span-count : (f : Fields) {s : Span} → s ≡ spanOf (openingOf f) → s .count ≡ manyIn (f .body)
+unfolding spanOf
+span-count f e = ap (λ (s : Span). s .count) e ∙ sym (manyIn-count f)
 
 -- ---- the parts written
 
@@ -213,7 +198,7 @@ module _ (f : Fields) (rows l : List ℕ) (puts : Puts f rows l) where
       pub room-own : q + length (ownText (f .body)) ≤ length n
       room-own = room-first n (ownText (f .body)) (entryLines f rows) q after-head
 
-      module _ (o : ℕ) (k : List ℕ) (owned : Wrote n q (ownText (f .body)) o k) (count : ℕ) (e : count ≡ countOf f) where
+      module _ (o : ℕ) (k : List ℕ) (owned : Wrote n q (ownText (f .body)) o k) (count : ℕ) (e : count ≡ manyIn (f .body)) where
         -- and for the entry lines, whose rows are there.
         pub room-rows : (20 * count ≤ length rows) × (o + length (entriesText (rowEntries count rows)) ≤ length k)
         room-rows = (omega (arith, puts .held), rw e (room-next n k (ownText (f .body)) (entryLines f rows) q o after-head owned))

@@ -16,20 +16,18 @@ use Rattle.kinds.specs.Sizes.{text-room, row-size}
 use Rattle.text.specs.Wrote.{Wrote}
 use Rattle.command.proofs.Tests.{by-test, both}
 use Rattle.message.specs.Legal.{legalMessage}
-use Rattle.message.specs.Answer.{fieldsOf}
-use Rattle.entries.specs.Span.{spanOf}
+use Rattle.message.specs.Answer.{fieldsOf, manyIn}
 use Rattle.rows.specs.Rows.{entryOf}
 use Rattle.rows.proofs.RowLaws.{rowsIn-length}
 use Rattle.message.specs.Rows.{rowEntries}
 use Rattle.message.specs.Text.{text, read}
-use Rattle.message.specs.Write.{countOf, messageWith, Puts}
+use Rattle.message.specs.Write.{messageWith, Puts}
 use Rattle.message.specs.declared.Fields.{Fields}
 use Rattle.message.proofs.AnswerLaws.{fields-back}
 use Rattle.message.proofs.ReadLaws.{text-most, read-text}
 use Rattle.writer.specs.declared.Write.{Write}
 use Rattle.writer.specs.declared.Write.the-variants.{Message, Short, Illegal}
 use Rattle.writer.specs.Written.{isMessage, Written, writtenText, written, outcomeOf, bytesOf, Writes}
-use Rattle.writer.proofs.PartsLaws.{}
 
 -- ---- each way through the code
 
@@ -44,20 +42,20 @@ module _ (f : Fields) (rows out : List ℕ) where
     unfolding written text-room
     refused h = rw (le-ltb (length out) 16_384 room, h) (record { outcome-is = refl; bytes-is = refl; out-is = refl })
 
-    module _ (count : ℕ) (e : count ≡ countOf f) where
+    module _ (count : ℕ) (e : count ≡ manyIn (f .body)) where
       -- There are fewer rows than entries, or more.
       pub written-unheld : (length rows ≡ count * 20 → ⊥) → Writes (written f rows out) Illegal out
       unfolding isMessage
-      written-unheld h = refused (rw (ne-eqb (length rows) (countOf f * 20) (λ q. h (q ∙ ap (λ (n : ℕ). n * 20) (sym e)))))
+      written-unheld h = refused (rw (ne-eqb (length rows) (manyIn (f .body) * 20) (λ q. h (q ∙ ap (λ (n : ℕ). n * 20) (sym e)))))
 
       module _ (held : length rows ≡ count * 20) where
         -- There is a row for each entry.
-        pub rows-held : countOf f * row-size ≤ length rows
+        pub rows-held : manyIn (f .body) * row-size ≤ length rows
         rows-held = omega (arith, held, e)
 
         legal-decides : isMessage f rows ≡ legalMessage (messageWith f rows)
         unfolding isMessage
-        legal-decides = rw (eq-eqb (length rows) (countOf f * 20) (held ∙ ap (λ (n : ℕ). n * 20) e))
+        legal-decides = rw (eq-eqb (length rows) (manyIn (f .body) * 20) (held ∙ ap (λ (n : ℕ). n * 20) e))
 
         module _ (r : Bool) (tested : r ≡ legalMessage (messageWith f rows)) where
           -- The message is not legal.
@@ -122,18 +120,18 @@ module _ (f : Fields) (rows out : List ℕ) where
       absurd (omega arith))
       (λ long.
       by-test (isMessage f rows)
-      (λ yes. (both (eqb (length rows) (countOf f * row-size)) (legalMessage (messageWith f rows)) yes .1, rw (long, yes)))
+      (λ yes. (both (eqb (length rows) (manyIn (f .body) * row-size)) (legalMessage (messageWith f rows)) yes .1, rw (long, yes)))
       (λ no.
       let z : _≡_ {A = ℕ} 4 0 = rw (long, no) at told in
       absurd (omega arith)))
 
   -- The bytes that were written are read back.
   pub written-back : written f rows out .outcome ≡ done → ReadBack f rows (take (written f rows out .bytes) (written f rows out .out))
-  unfolding messageWith countOf spanOf
+  unfolding messageWith
   written-back told =
       let w = is-written told in
       rw (w .1, take-at s (drop (length s) out) (length s) refl)
-      (record { read-is = read-text (messageWith f rows) (w .0); fields-are = fields-back f (rowEntries (countOf f) rows) (rowsIn-length entryOf (countOf f) rows) })
+      (record { read-is = read-text (messageWith f rows) (w .0); fields-are = fields-back f (rowEntries (manyIn (f .body)) rows) (rowsIn-length entryOf (manyIn (f .body)) rows) })
 
   -- They are no more than an output has room for.
   pub written-fits : written f rows out .outcome ≡ done → written f rows out .bytes ≤ text-room

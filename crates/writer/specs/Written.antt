@@ -10,7 +10,8 @@ use Rattle.kinds.specs.Outcome.{done, short-output, bad-message}
 use Rattle.kinds.specs.Sizes.{between, hubs-most, term-most, text-room, row-size}
 use Rattle.message.specs.Legal.{legalMessage}
 use Rattle.message.specs.Text.{text}
-use Rattle.message.specs.Write.{countOf, messageWith}
+use Rattle.message.specs.Answer.{manyIn}
+use Rattle.message.specs.Write.{messageWith}
 use Rattle.message.specs.declared.Fields.{Fields}
 use Rattle.writer.specs.declared.Write.{Write}
 use Rattle.writer.specs.declared.Write.the-variants.{Message, Short, Illegal}
@@ -21,7 +22,7 @@ wholly f to own = between 1 term-most (f .term .0) && (between 1 hubs-most (f .f
 
 -- Whether fields and rows are a message that can be written: a row for each entry and no other, and legal.
 unfoldable pub isMessage : Fields → List ℕ → Bool
-isMessage f rows = eqb (length rows) (countOf f * row-size) && legalMessage (messageWith f rows)
+isMessage f rows = eqb (length rows) (manyIn (f .body) * row-size) && legalMessage (messageWith f rows)
 
 -- What a call comes to: an outcome, how many bytes the text has, and what is left in the output.
 pub record Written : Type 0 where

@@ -11,7 +11,8 @@ ghost use Rattle.message.specs.Message.{vote-request, vote-yes, append};
 ghost use Rattle.message.specs.Legal.{legalBody, legalMessage};
 ghost use Rattle.message.specs.Rows.{rowEntries};
 ghost use Rattle.message.specs.Text.{text};
-ghost use Rattle.message.specs.Write.{countOf, messageWith, Puts};
+ghost use Rattle.message.specs.Answer.{manyIn};
+ghost use Rattle.message.specs.Write.{messageWith, Puts};
 ghost use Rattle.message.specs.declared.Body.the-variants.{VoteRequest, VoteYes, Append};
 ghost use Rattle.writer.specs.Parts.{twoLines, typeText, headText, ownText};
 ghost use Rattle.writer.specs.Written.{wholly, written, Writes};
@@ -254,7 +255,7 @@ fn is_whole(f: Fields, to: bool, own: bool) -> bool
 
 // Whether the message of these fields and rows is legal.
 fn is_legal(f: Fields, rows: &[u8]) -> bool
-    requires { ⌜ countOf f * row-size ≤ length (now rows) ⌝ }
+    requires { ⌜ manyIn (f .body) * row-size ≤ length (now rows) ⌝ }
     ensures { λ r. ⌜ r ≡ legalMessage (messageWith f (now (rows .entry))) ⌝ }
 {
     let body = f.body;

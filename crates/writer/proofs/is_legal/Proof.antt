@@ -3,7 +3,6 @@ use mathlib.Core.Path.{refl, ap}
 use borrow.Author.Needs.{needs}
 use Prim.Native.Nat.{ℕ}
 use lib.Dec.{eqb}
-use Rattle.message.specs.Fields.{countIn, bodyOf}
 use Rattle.message.specs.Legal.{legalTo, legalBody}
 use Rattle.writer.proofs.LegalLaws.{rows-there, tests-decide}
 use Rattle.writer.proofs.is_legal.Statement.{statement}
@@ -11,21 +10,19 @@ use Rattle.writer.proofs.is_legal.Tie as tie
 
 -- The rows of a vote-yes are there.
 yes-rows : tie.Need-is-yes-requires
-unfolding countIn
 yes-rows c κs =
     let start = c .before .before .before .before .before in
     rows-there (start .args .f) (start .args .rows .now) (c .before .body2 .given .1) (start .pre)
 
 -- And those of an append.
 append-rows : tie.Need-is-append-requires
-unfolding countIn
 append-rows c κs =
     let start = c .before .before .before .before .before in
     rows-there (start .args .f) (start .args .rows .now) (c .before .body3 .given .1) (start .pre)
 
 -- A vote-request.
 request : tie.Need-returns
-unfolding countIn bodyOf legalTo
+unfolding legalTo
 request c =
     let at-body = c .before .before .before .before in
     let start = at-body .before .before .before .before in
@@ -34,7 +31,7 @@ request c =
 
 -- A vote-yes.
 yes : tie.Need-returns-2
-unfolding countIn bodyOf legalTo
+unfolding legalTo
 yes c =
     let at-body = c .before .before .before in
     let at-to = at-body .before .before in
@@ -44,7 +41,7 @@ yes c =
 
 -- A vote-no.
 no : tie.Need-returns-3
-unfolding countIn bodyOf legalTo legalBody
+unfolding legalTo legalBody
 no c =
     let at-to = c .before .before .before in
     let start = at-to .before .before in
@@ -52,7 +49,7 @@ no c =
 
 -- An append.
 append : tie.Need-returns-4
-unfolding countIn bodyOf legalTo
+unfolding legalTo
 append c =
     let at-body = c .before .before .before in
     let at-to = at-body .before .before in
@@ -62,7 +59,7 @@ append c =
 
 -- An append-yes.
 append-yes : tie.Need-returns-5
-unfolding countIn bodyOf legalTo legalBody
+unfolding legalTo legalBody
 append-yes c =
     let at-body = c .before .before .before in
     let at-to = at-body .before .before in
@@ -72,7 +69,7 @@ append-yes c =
 
 -- An append-no.
 append-no : tie.Need-returns-6
-unfolding countIn bodyOf legalTo legalBody
+unfolding legalTo legalBody
 append-no c =
     let at-body = c .before .before .before in
     let at-to = at-body .before .before in
