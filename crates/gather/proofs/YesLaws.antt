@@ -25,7 +25,7 @@ use Rattle.rules.specs.Events.{isCandidate}
 use Rattle.rules.specs.Receive.{idle, effect, gather, counted, heardYes, contradicts}
 use Rattle.rows.proofs.BoolLaws.{and-first, and-second, or-first}
 use Rattle.state.proofs.LegalLaws.{legalCandidate-is, legalState-kept, legalState-lost}
-use Rattle.rules.proofs.MessageLaws.{IsYes, yes-is}
+use Rattle.message.proofs.LegalLaws.{IsYes, yes-is}
 use Rattle.rules.proofs.GatherLaws.{gather-length}
 use Rattle.promise.specs.Promise.{Ready, Ruled}
 use Rattle.gather.specs.Gather.{gatheredInto}

@@ -37,7 +37,7 @@ use Rattle.rows.proofs.BoolLaws.{or-first, or-second, or-either, cond-either}
 use Rattle.kinds.proofs.BetweenLaws.{between-true}
 use Rattle.state.proofs.LegalLaws.{legalCandidate-is, legalLeader-is}
 use Rattle.rules.proofs.LegalLaws.{IsWho, legalMessage-is}
-use Rattle.rules.proofs.MessageLaws.{append-is}
+use Rattle.message.proofs.LegalLaws.{append-is}
 use Rattle.paxos.proofs.Member.{clash}
 use Rattle.views.specs.Hall.{Hall}
 use Rattle.views.specs.Moves.{Move}

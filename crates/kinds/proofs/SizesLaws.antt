@@ -1,5 +1,5 @@
--- What others need to know of the limit and of a text's room: they are numbers of 32 bits. Assumes nothing.
-use Prim.Native.Nat.{ℕ, _+_, _≤_, _<_}
+-- What others need to know of the limit and of a text's room: they are numbers of 32 bits, and the text of a full log fits. Assumes nothing.
+use Prim.Native.Nat.{ℕ, _+_, _*_, _≤_, _<_}
 use native.Mathlib.Omega.{arith}
 use Rattle.kinds.specs.Sizes.{limit, text-room, term-most}
 use Rattle.kinds.specs.Packed.{half}
@@ -12,3 +12,9 @@ limit-small = omega arith
 pub room-small : text-room < half
 unfolding text-room
 room-small = omega arith
+
+-- The lines of a message before its entries take at most 158 bytes, and each entry line at most 50: so the text of a message with an entry for
+-- every place fits.
+pub text-fits : 158 + limit * 50 ≤ text-room
+unfolding limit text-room
+text-fits = omega arith

@@ -52,7 +52,7 @@ use Rattle.message.specs.Range.{
   highIn,
 }
 use Rattle.message.proofs.FieldsLaws.{spelled}
-use Rattle.message.proofs.LegalLaws.{request-has, request-legal, yes-has, yes-legal, append-has, append-legal}
+use Rattle.message.proofs.LegalLaws.{request-is, is-request, yes-is, is-yes, append-is, is-append}
 use Rattle.message.proofs.TextLaws.{placed}
 
 -- Whether these numbers of these fields lie in their ranges, given the numbers before them.
@@ -138,9 +138,9 @@ module _ (term from to : ℕ) (some-term : 1 ≤ term) where
       let B = between (cond (eqb last 0) 0 1) (term - 1) ballot in
       same-test (legalBody term (vote-request last ballot)) ((A && (B && true)) && true)
       (λ h.
-      let r = request-has term last ballot h in
-      let a : A ≡ true = between-in 0 (cond (eqb term 1) 0 limit) last (omega arith) (in-cond term 1 last limit (λ e. r .ballot-zero (omega arith)) (r .last-most)) in
-      let b : B ≡ true = between-in (cond (eqb last 0) 0 1) (term - 1) ballot (low-cond last ballot (r .ballot-zero)) (omega arith) in
+      let r = request-is term last ballot h in
+      let a : A ≡ true = between-in 0 (cond (eqb term 1) 0 limit) last (omega arith) (in-cond term 1 last limit (λ e. r .empty (omega arith)) (r .within)) in
+      let b : B ≡ true = between-in (cond (eqb last 0) 0 1) (term - 1) ballot (low-cond last ballot (r .empty)) (omega arith) in
       rw (a, b))
       (λ h.
       let x = both (A && (B && true)) true h in
@@ -149,7 +149,7 @@ module _ (term from to : ℕ) (some-term : 1 ≤ term) where
       let a = cond-in term 1 last limit (between-true 0 (cond (eqb term 1) 0 limit) last (y .0) .1) in
       let b = between-true (cond (eqb last 0) 0 1) (term - 1) ballot (z .0) in
       let below : ballot ≤ term - 1 = b .1 in
-      request-legal term last ballot (record { last-most = a .0; ballot-below = omega arith; ballot-zero = cond-low last ballot (b .0) }))
+      is-request term last ballot (record { within = a .0; below = omega arith; empty = cond-low last ballot (b .0) }))
 
   own-yes : (last ballot : ℕ) (es : List Entry) →
       legalBody term (vote-yes last ballot es)
@@ -163,11 +163,11 @@ module _ (term from to : ℕ) (some-term : 1 ≤ term) where
       let L = legalEntries 1 ballot es in
       same-test (legalBody term (vote-yes last ballot es)) ((A && (B && (C && true))) && L)
       (λ h.
-      let r = yes-has term last ballot es h in
+      let r = yes-is term last ballot es h in
       let a : A ≡ true = between-in 0 limit last (omega arith) (omega arith) in
       let b : B ≡ true = between-in 0 (term - 1) ballot (omega arith) (omega arith) in
-      let c : C ≡ true = between-in 0 (cond (eqb ballot 0) 0 (limit - last)) n (omega arith) (in-cond ballot 0 n (limit - last) (r .ballot-zero) (omega arith)) in
-      rw (a, b, c, r .entries-legal))
+      let c : C ≡ true = between-in 0 (cond (eqb ballot 0) 0 (limit - last)) n (omega arith) (in-cond ballot 0 n (limit - last) (r .empty) (omega arith)) in
+      rw (a, b, c, r .legal))
       (λ h.
       let w = both (A && (B && (C && true))) L h in
       let x = both A (B && (C && true)) (w .0) in
@@ -177,7 +177,7 @@ module _ (term from to : ℕ) (some-term : 1 ≤ term) where
       let b : (0 ≤ ballot) × (ballot ≤ term - 1) = between-true 0 (term - 1) ballot (y .0) in
       let c = cond-in ballot 0 n (limit - last) (between-true 0 (cond (eqb ballot 0) 0 (limit - last)) n (z .0) .1) in
       let most : n ≤ limit - last = c .0 in
-      yes-legal term last ballot es (record { sum-most = omega arith; ballot-below = omega arith; ballot-zero = c .1; entries-legal = w .1 }))
+      is-yes term last ballot es (record { within = omega arith; below = omega arith; empty = c .1; legal = w .1 }))
 
   own-append : (prev prevterm chosen : ℕ) (es : List Entry) →
       legalBody term (append prev prevterm chosen es)
@@ -193,12 +193,12 @@ module _ (term from to : ℕ) (some-term : 1 ≤ term) where
       let L = legalEntries (max 1 prevterm) term es in
       same-test (legalBody term (append prev prevterm chosen es)) ((A && (B && (C && (D && true)))) && L)
       (λ h.
-      let r = append-has term prev prevterm chosen es h in
+      let r = append-is term prev prevterm chosen es h in
       let a : A ≡ true = between-in 0 limit prev (omega arith) (omega arith) in
-      let b : B ≡ true = prevterm-in prev term prevterm (r .prevterm-zero) (r .prev-zero) (r .prevterm-most) in
+      let b : B ≡ true = prevterm-in prev term prevterm (r .start .0) (r .start .1) (r .low) in
       let c : C ≡ true = between-in 0 limit chosen (omega arith) (omega arith) in
       let d : D ≡ true = between-in (chosen - prev) (limit - prev) n (omega arith) (omega arith) in
-      rw (a, b, c, d, r .entries-legal))
+      rw (a, b, c, d, r .legal))
       (λ h.
       let v = both (A && (B && (C && (D && true)))) L h in
       let w = both A (B && (C && (D && true))) (v .0) in
@@ -208,14 +208,13 @@ module _ (term from to : ℕ) (some-term : 1 ≤ term) where
       let a : (0 ≤ prev) × (prev ≤ limit) = between-true 0 limit prev (w .0) in
       let b = in-prevterm prev term prevterm (x .0) in
       let d : (chosen - prev ≤ n) × (n ≤ limit - prev) = between-true (chosen - prev) (limit - prev) n (z .0) in
-      append-legal term prev prevterm chosen es
+      is-append term prev prevterm chosen es
       (record {
-        sum-most = omega arith;
-        prevterm-zero = b .0;
-        prev-zero = b .1;
-        prevterm-most = b .2;
-        chosen-most = omega arith;
-        entries-legal = v .1;
+        within = omega arith;
+        start = (b .0, b .1);
+        low = b .2;
+        known = omega arith;
+        legal = v .1;
       }))
 
   own-none : legalBody term vote-no ≡ (ranged type=vote-no [] (head term from to) [] && true)

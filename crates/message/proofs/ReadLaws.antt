@@ -11,6 +11,7 @@ use lib.Dec.{leb}
 use lib.ListN.{length, drop, length-append}
 use lib.Seq.{drop-at}
 use Rattle.kinds.specs.Sizes.{between, term-most, limit, text-room}
+use Rattle.kinds.proofs.SizesLaws.{text-fits}
 use Rattle.text.specs.Decimal.{decimal}
 use Rattle.text.specs.Hex.{hex}
 use Rattle.text.specs.Line.{LF, lineText}
@@ -54,7 +55,7 @@ use Rattle.message.specs.Fields.{
   numbers,
 }
 use Rattle.message.specs.Text.{type=, name, key, linesText, entryText, entriesText, text, message, ifLegal, read, partFrom, partTo}
-use Rattle.message.proofs.LegalLaws.{sizes, Most, most-at, legal-held}
+use Rattle.message.proofs.LegalLaws.{Most, most-at, legal-held}
 use Rattle.message.proofs.TextLaws.{AllRanged, message-written, message-sound}
 
 -- ---- legal entries
@@ -132,7 +133,7 @@ fields-most type=append-no = omega arith
 pub text-most : (m : Message) → legalMessage m ≡ true → length (text m) ≤ text-room
 unfolding text
 text-most m h =
-    let s = sizes in
+    let fits = text-fits in
     let held = legal-held m h in
     let own = held .own in
     let t = typeOf (m .body) in

@@ -27,7 +27,7 @@ use Rattle.rules.specs.Events.{len, says}
 use Rattle.rules.specs.Receive.{Effect, idle, effect, vote, heardYes, fits, taken, heardAppend, heardEnd, rule, contradicts}
 use Rattle.rules.specs.Step.{over, written}
 use Rattle.rows.proofs.BoolLaws.{cond-either}
-use Rattle.rules.proofs.MessageLaws.{append-is}
+use Rattle.message.proofs.LegalLaws.{append-is}
 use Rattle.rules.proofs.Fair.{IsPeer}
 use Rattle.promise.specs.Promise.{Ready, HearsEnd, HearsAppend, isEffect, ruledBy, saidBy, Ruled}
 use Rattle.promise.proofs.PromiseLaws.{ready-image, ready-legal, ready-next, ready-who}

@@ -25,7 +25,7 @@ use Rattle.rows.proofs.ListLaws.{bytesOf-map}
 use Rattle.rules.specs.Events.{termAt}
 use Rattle.rules.specs.Receive.{fits, replaced, taken}
 use Rattle.rows.proofs.BoolLaws.{and-first, and-second, and-either, or-either, not-both}
-use Rattle.rules.proofs.MessageLaws.{append-is}
+use Rattle.message.proofs.LegalLaws.{append-is}
 use Rattle.promise.specs.Promise.{Ready}
 use Rattle.promise.specs.Heads.{taking}
 use Rattle.promise.proofs.PromiseLaws.{ready-image, ready-legal, ready-size, ready-head, ready-who, ready-headed, ready-put}

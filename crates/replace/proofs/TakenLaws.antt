@@ -19,7 +19,7 @@ use Rattle.rules.specs.Receive.{effect, fits, replaced, taken, heardAppend}
 use Rattle.rows.proofs.BoolLaws.{cond-either}
 use Rattle.state.proofs.LegalLaws.{IsKept, legalState-kept, follower-legal}
 use Rattle.rules.proofs.LegalLaws.{IsWho}
-use Rattle.rules.proofs.MessageLaws.{IsAppend, append-is}
+use Rattle.message.proofs.LegalLaws.{IsAppend, append-is}
 use Rattle.rules.proofs.Fair.{Fine, IsPeer}
 use Rattle.rules.proofs.AppendLaws.{heardAppend-fine}
 use Rattle.promise.proofs.PromiseLaws.{fine-legal}

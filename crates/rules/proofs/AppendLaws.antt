@@ -22,7 +22,7 @@ use Rattle.command.proofs.EntryLaws.{legalEntries-wider}
 use Rattle.rules.proofs.EntryLaws.{legalEntries-take, legalEntries-append, lastTerm, termAt-is}
 use Rattle.state.proofs.LegalLaws.{IsKept, legalState-kept, follower-legal}
 use Rattle.rules.proofs.LegalLaws.{IsWho}
-use Rattle.rules.proofs.MessageLaws.{IsAppend}
+use Rattle.message.proofs.LegalLaws.{IsAppend}
 use Rattle.rules.proofs.Fair.{Fine, does, IsPeer, grows-same, writes-one, says-legal, some-not-none}
 
 -- What a log is that takes the place of another: legal at the term, no shorter, and long enough for what is chosen.

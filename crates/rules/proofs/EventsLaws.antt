@@ -25,7 +25,7 @@ use Rattle.command.proofs.EntryLaws.{legalEntries-wider}
 use Rattle.rules.proofs.EntryLaws.{legalEntries-drop, legalEntries-joined, termAt-is}
 use Rattle.state.proofs.LegalLaws.{IsKept, legalKept-is, IsLeader, legalLeader-is, legalState-kept, legalState-lost, follower-legal, candidate-legal, leader-legal}
 use Rattle.rules.proofs.LegalLaws.{IsWho, isHub-is}
-use Rattle.rules.proofs.MessageLaws.{is-request, is-append}
+use Rattle.message.proofs.LegalLaws.{is-request, is-append}
 use Rattle.rules.proofs.Fair.{Sound, Fair, grows-same, writes-none, writes-one, says-legal, refuses-fair, goes-fair}
 
 -- ---- parts that several events have

@@ -22,7 +22,7 @@ use Rattle.rules.proofs.CountLaws.{all-weaker, all-drop, all-replicate,
 use Rattle.rules.proofs.EntryLaws.{legalEntries-joined, legalEntries-commands}
 use Rattle.state.proofs.LegalLaws.{IsKept, IsCandidate, legalCandidate-is, legalState-kept, legalState-lost, candidate-legal}
 use Rattle.rules.proofs.LegalLaws.{IsWho}
-use Rattle.rules.proofs.MessageLaws.{IsYes}
+use Rattle.message.proofs.LegalLaws.{IsYes}
 use Rattle.rules.proofs.Fair.{Sound, Fine, idles, does, IsPeer, grows-same, writes-none}
 use Rattle.rules.proofs.EventsLaws.{leads-legal}
 

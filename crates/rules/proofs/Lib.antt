@@ -3,7 +3,6 @@ pub mod EntryLaws
 pub mod LegalLaws
 pub mod MajorityLaws
 pub mod Fair
-pub mod MessageLaws
 pub mod EventsLaws
 pub mod EndLaws
 pub mod AppendLaws

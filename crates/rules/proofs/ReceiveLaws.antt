@@ -23,7 +23,7 @@ use Rattle.command.proofs.EntryLaws.{legalEntries-wider}
 use Rattle.rules.proofs.EntryLaws.{legalEntries-drop, lastTerm, lastTerm-from, legalEntries-take}
 use Rattle.state.proofs.LegalLaws.{IsKept, legalState-kept, follower-legal}
 use Rattle.rules.proofs.LegalLaws.{IsWho, IsMessage}
-use Rattle.rules.proofs.MessageLaws.{request-is, yes-is, is-yes, append-is}
+use Rattle.message.proofs.LegalLaws.{request-is, yes-is, is-yes, append-is}
 use Rattle.rules.proofs.Fair.{Fair, Fine, idles, does, IsPeer, grows-same, grows-then, writes-none, writes-one, says-legal, some-not-none, refuses-fair, goes-fair}
 use Rattle.rules.proofs.EventsLaws.{withTerm-kept, withTerm-grows}
 use Rattle.rules.proofs.GatherLaws.{heardYes-fine}

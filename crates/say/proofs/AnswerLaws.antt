@@ -25,7 +25,7 @@ use Rattle.rules.specs.Events.{len, says}
 use Rattle.rules.specs.Receive.{vote}
 use Rattle.rules.proofs.EntryLaws.{lastTerm, lastTerm-from, legalEntries-take, legalEntries-drop}
 use Rattle.state.proofs.LegalLaws.{IsKept}
-use Rattle.rules.proofs.MessageLaws.{request-is, is-yes}
+use Rattle.message.proofs.LegalLaws.{request-is, is-yes}
 use Rattle.rules.proofs.Fair.{says-legal}
 use Rattle.promise.specs.Append.{Tested}
 use Rattle.promise.proofs.PromiseLaws.{ready-who}
