@@ -5,13 +5,10 @@ use mathlib.Core.List.{List, [], _∷_}
 use mathlib.Core.Path.{_≡_, refl, sym, subst}
 use lib.ListN.{drop}
 use Rattle.message.specs.Answer.{openingOf}
-use Rattle.message.specs.Fields.{MessageType, fields, ownFields}
-use Rattle.message.specs.Range.{range}
+use Rattle.message.specs.Fields.{fields, ownFields}
 use Rattle.message.specs.declared.Body.{Body}
 use Rattle.message.proofs.FieldsLaws.{Slotted}
-use Rattle.fields.specs.Table.{typeIs, fieldIs, rangeIs, fieldsMany, fieldAt, bodyAt, fieldsBy}
-use Rattle.fields.specs.declared.Bounds.{Bounds}
-use Rattle.fields.specs.declared.Field.{Field}
+use Rattle.fields.specs.Table.{typeIs, fieldIs, fieldsMany, fieldAt, bodyAt, fieldsBy}
 use Rattle.fields.specs.declared.Kind.{Kind}
 use Rattle.fields.specs.declared.Kind.the-variants.{VoteRequest, VoteYes, VoteNo, Append, AppendYes, AppendNo}
 
@@ -71,15 +68,6 @@ fields-numbers AppendYes ns s = λ i. record { type = typeIs AppendYes; numbers 
 fields-numbers AppendNo ns s = λ i. record { type = typeIs AppendNo; numbers = s i }
 
 -- ---- what an arm of the code says, once the case is known
-
-module _ {f g : Field} (is : f ≡ g) where
-  -- A field's range.
-  pub range-told
-      : (t : MessageType) (ns : List ℕ) {b : Bounds}
-      → b .lo ≡ range t (fieldIs g) ns .lo
-      → b .hi ≡ range t (fieldIs g) ns .hi
-      → rangeIs b ≡ range t (fieldIs f) ns
-  range-told t ns {b} l h = subst (λ (x : Field). rangeIs b ≡ range t (fieldIs x) ns) (sym is) (λ i. record { lo = l i; hi = h i })
 
 -- A type's body.
 pub body-told : {k j : Kind} → k ≡ j → (a b c n : ℕ) {r : Body} → r ≡ bodyAt j a b c n → r ≡ bodyAt k a b c n

@@ -24,11 +24,9 @@ use Rattle.message.specs.Fields.{
   length=,
   numberOf,
 }
-use Rattle.message.specs.Range.{Range, from-to}
 use Rattle.message.specs.declared.Body.{Body}
 use Rattle.message.specs.declared.Body.the-variants.{VoteRequest, VoteYes, VoteNo, Append, AppendYes, AppendNo}
 use Rattle.message.specs.declared.Fields.{Fields}
-use Rattle.fields.specs.declared.Bounds.{Bounds}
 use Rattle.fields.specs.declared.Field.{Field}
 use Rattle.fields.specs.declared.Field.the-variants.{Term, From, To, Last, Ballot, Count, Prev, Prevterm, Chosen, End, Length}
 use Rattle.fields.specs.declared.Kind.{Kind}
@@ -63,10 +61,6 @@ fieldIs Prevterm = prevterm=
 fieldIs Chosen = chosen=
 fieldIs End = end=
 fieldIs Length = length=
-
--- The range that bounds are.
-abbrev pub rangeIs : Bounds → Range
-rangeIs b = from-to (b .lo) (b .hi)
 
 -- ---- the order of the fields
 

@@ -17,9 +17,10 @@ use Rattle.message.specs.Fields.{fields, slot, unset}
 use Rattle.message.specs.Range.{range, linesIn}
 use Rattle.message.specs.Text.{key}
 use Rattle.lines.specs.Found.{allLines, FoundLines}
-use Rattle.fields.specs.Table.{typeIs, fieldIs, rangeIs, fieldsMany, following, fieldAt}
+use Rattle.fields.specs.Table.{typeIs, fieldIs, fieldsMany, following, fieldAt}
 use Rattle.fields.proofs.TableLaws.{field-at, field-end}
-use Rattle.fields.specs.declared.Bounds.{Bounds}
+use Rattle.ranges.specs.Bounds.{rangeIs}
+use Rattle.ranges.specs.declared.Bounds.{Bounds}
 use Rattle.fields.specs.declared.Field.{Field}
 use Rattle.fields.specs.declared.Field.the-variants.{Term}
 use Rattle.fields.specs.declared.Kind.{Kind}

@@ -135,7 +135,7 @@ fn lines_in(s: &[u8], at: usize, kind: Kind) -> Lines
     let mut field = Field::Term;
     let most = fields::fields_many(kind);
     while read < most {
-        let r = fields::range_of(kind, field, &numbers);
+        let r = ranges::range_of(kind, field, &numbers);
         let Number::Is { value, next: p } = field_in(s, next, field, r.lo, r.hi) else {
             return Lines {
                 numbers,
