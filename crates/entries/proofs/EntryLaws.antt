@@ -1,9 +1,9 @@
 -- Entry lines: what the code finds of one, of one whose command is legal, and of several that it walks over. Assumes nothing.
-use Prim.Native.Nat.{_-_, _<_, _≤_, suc, ℕ}
+use Prim.Native.Nat.{_+_, _-_, _<_, _≤_, zero, suc, ℕ}
 use borrow.Author.Tests.{not-false, not-true}
 use lib.ListN.{drop, drop-of-length-le, length}
 use mathlib.Core.Bool.{Bool, false, not, true}
-use mathlib.Core.List.{List, _++_}
+use mathlib.Core.List.{List, [], _∷_, _++_}
 use mathlib.Core.Path.{_∙_, _≡_, ap, ap₂, refl, sym}
 use native.Mathlib.Omega.{arith}
 use Rattle.command.proofs.AnswersLaws.{ofWords-of}
@@ -13,14 +13,13 @@ use Rattle.command.specs.Command.{Command, commandOf, legalCommand}
 use Rattle.command.specs.Entry.{Entry}
 use Rattle.command.specs.Words.{part, value, word, wordAt}
 use Rattle.kinds.specs.Of.{term}
-use Rattle.entries.proofs.CaseLaws.{entry-at, entry-none}
-use Rattle.entries.specs.Found.{FoundEntry}
+use Rattle.entries.proofs.CaseLaws.{entry-at, entry-none, next-at, next-bad, number-bad, number-is, words-are, words-bad}
+use Rattle.entries.specs.Found.{FoundEntry, FoundEntries, leastAfter}
 use Rattle.message.specs.Range.{entriesIn, entryIn, legalOnly}
-use Rattle.message.specs.Text.{entry=, read}
-use Rattle.message.specs.Walk.{entryLine, past}
-use Rattle.text.proofs.CaseLaws.{next-at, next-bad, number-is, number-bad, words-are, words-bad}
+use Rattle.message.specs.Text.{entry=}
+use Rattle.message.specs.Walk.{entryLine}
 use Rattle.text.proofs.HexLaws.{Bytes}
-use Rattle.text.proofs.ReaderLaws.{onward-assoc, onward-got, onward-lost}
+use Rattle.text.proofs.ReaderLaws.{got-rest, got-value, onward-assoc, onward-got, onward-lost, onward-pure, onward-same, onward-sound}
 use Rattle.text.specs.Found.{Found, FoundNext, FoundNumber, FoundWords}
 use Rattle.text.specs.Hex.{hexBytes}
 use Rattle.text.specs.HexWords.{wordBytes}
@@ -153,44 +152,90 @@ module _ (s : List ℕ) (at low high : ℕ) (r : EntryAt) (found : FoundEntry s 
 
 -- ---- several lines
 
--- One more line: what is past it is past the others.
-past-next
-    : (n low high : ℕ) (s : List ℕ) {e : Entry} {rest : List ℕ}
-    → entryIn low high s ≡ got e rest
-    → past (entriesIn (suc n) low high s) ≡ past (entriesIn n (e .term) high rest)
-unfolding entriesIn past onward
-past-next n low high s {e} {rest} h = ap (λ (g : Got (List Entry)). onward g (λ a. pure tt)) (onward-got _ h) ∙ onward-assoc (entriesIn n (e .term) high rest) _ _
+-- What is read behind entries: so many more, their terms from where those ended.
+entriesIn-more
+    : (n k low high : ℕ) (s : List ℕ) {es : List Entry} {rest : List ℕ}
+    → entriesIn n low high s ≡ got es rest
+    → entriesIn (n + k) low high s ≡ onward (entriesIn k (leastAfter low es) high rest) (λ fs. pure (es ++ fs))
+unfolding entriesIn leastAfter onward
+entriesIn-more zero k low high s {es} {rest} h =
+    let none : [] ≡ es = got-value h in
+    let here : s ≡ rest = got-rest h in
+    let same : 0 + k ≡ k = omega arith in
+    rw (same, ← none, ← here) (sym (onward-same (entriesIn k low high s) (λ fs t. refl) ∙ onward-pure (entriesIn k low high s)))
+entriesIn-more (suc n) k low high s {es} {rest} h =
+    let w = onward-sound {g = entryIn low high s} {f = λ e t. onward (entriesIn n (e .term) high t) (λ fs. pure (e ∷ fs))} h in
+    let e = w .value in
+    let v = onward-sound {g = entriesIn n (e .term) high (w .left)} {f = λ fs. pure (e ∷ fs)} (w .next) in
+    let are : e ∷ v .value ≡ es = got-value (v .next) in
+    let here : v .left ≡ rest = got-rest (v .next) in
+    let more = entriesIn-more n k (e .term) high (w .left) (v .first) in
+    let same : suc n + k ≡ suc (n + k) = omega arith in
+    ap (λ (m : ℕ). entriesIn m low high s) same
+    ∙ onward-got _ (w .first)
+    ∙ ap (λ (g : Got (List Entry)). onward g (λ fs. pure (e ∷ fs))) more
+    ∙ onward-assoc (entriesIn k (leastAfter (e .term) (v .value)) high (v .left)) _ _
+    ∙ ap₂ (λ (l : List Entry) (r : List ℕ). onward (entriesIn k (leastAfter low l) high r) (λ fs. pure (l ++ fs))) are here
 
-module _ (s : List ℕ) (at count low high i left least : ℕ) (so-far : past (entriesIn count low high (drop at s)) ≡ past (entriesIn left least high (drop i s))) where
-  -- All were passed.
-  pub walk-done : left ≤ 0 → i ≤ length s → Found s (past (entriesIn count low high (drop at s))) tt i
-  unfolding entriesIn past onward
-  walk-done h g =
-      let none-left : left ≡ 0 = omega arith in
-      record { inside = g; read = so-far ∙ ap (λ (n : ℕ). past (entriesIn n least high (drop i s))) none-left }
+-- Behind the last entry its term is the least.
+least-last : (low : ℕ) (es : List Entry) (e : Entry) → leastAfter low (es ++ (e ∷ [])) ≡ e .term
+unfolding leastAfter
+least-last low [] e = refl
+least-last low (x ∷ es) e = least-last (x .term) es e
 
-  module _ (more : 0 < left) (r : EntryAt) (found : FoundEntry s (entryIn least high (drop i s)) r) where
-    one : left ≡ suc (left - 1)
-    one = omega arith
+-- So many of count lines were read, up to the place `next`; the next term is at least `least`.
+pub record Walking (s : List ℕ) (at count low high next read least : ℕ) : Type 0 where
+  pub inside : next ≤ length s
+  pub most : read ≤ count
+  pub before : List Entry
+  pub so-far : entriesIn read low high (drop at s) ≡ got before (drop next s)
+  pub least-is : least ≡ leastAfter low before
 
-    -- The next is none.
-    pub walk-none : r ≡ End → past (entriesIn count low high (drop at s)) ≡ lost
-    unfolding entriesIn past
-    walk-none e = so-far ∙ rw one (onward-lost _ (onward-lost _ (entry-none s _ r found e)))
+-- At first none was.
+pub walking-none : (s : List ℕ) (at count low high : ℕ) → at ≤ length s → Walking s at count low high at 0 low
+unfolding entriesIn leastAfter
+walking-none s at count low high h = record { inside = h; most = omega arith; before = []; so-far = refl; least-is = refl }
 
-    -- The next is passed.
-    pub walk-again
-        : (t : Term) (what duration a b n : ℕ)
-        → r ≡ EntryAt·Is t what duration a b n
-        → (y : ℕ)
-        → y ≡ t .0
-        → past (entriesIn count low high (drop at s)) ≡ past (entriesIn (left - 1) y high (drop n s))
-    walk-again t what duration a b n e y z =
-        so-far
-        ∙ ap (λ (m : ℕ). past (entriesIn m least high (drop i s))) one
-        ∙ past-next (left - 1) least high (drop i s) (entry-at s _ r found t what duration a b n e .read)
-        ∙ ap (λ (x : ℕ). past (entriesIn (left - 1) x high (drop n s))) (sym z)
+module _ {s : List ℕ} {at count low high next read least : ℕ} (h : Walking s at count low high next read least) where
+  -- No line is left.
+  pub walking-done : (read < count → ⊥) → FoundEntries s at count low high (record { read = read; next = next })
+  walking-done done =
+      let all : read ≡ count = omega (arith, h .most, done) in
+      record {
+        inside = h .inside;
+        before = h .before;
+        so-far = h .so-far;
+        stuck = λ less. absurd (less all);
+        refused = λ less. absurd (less all);
+      }
 
-    -- It ends inside the text.
-    pub walk-inside : (t : Term) (what duration a b n : ℕ) → r ≡ EntryAt·Is t what duration a b n → n ≤ length s
-    walk-inside t what duration a b n e = entry-at s _ r found t what duration a b n e .inside
+  module _ (more : read < count) (r : EntryAt) (found : FoundEntry s (entryIn least high (drop next s)) r) where
+    -- The next line is none.
+    pub walking-stuck : r ≡ End → FoundEntries s at count low high (record { read = read; next = next })
+    unfolding entriesIn
+    walking-stuck e =
+        let none : entryIn (leastAfter low (h .before)) high (drop next s) ≡ lost = rw (← h .least-is) (entry-none s _ r found e) in
+        let left : count ≡ read + suc (count - read - 1) = omega arith in
+        record {
+          inside = h .inside;
+          before = h .before;
+          so-far = h .so-far;
+          stuck = λ _. none;
+          refused = λ _. rw left (entriesIn-more read (suc (count - read - 1)) low high (drop at s) (h .so-far) ∙ onward-lost _ (onward-lost _ none));
+        }
+
+    -- The next line was read.
+    pub walking-again : {t : Term} {what duration a b n y : ℕ} → r ≡ EntryAt·Is t what duration a b n → y ≡ t .0 → Walking s at count low high n (read + 1) y
+    unfolding entriesIn leastAfter
+    walking-again {t} {what} {duration} {a} {b} {n} e y= =
+        let f = entry-at s _ r found t what duration a b n e in
+        let x : Entry = record { term = t .0; command = ofWords what duration a b } in
+        let one : entriesIn 1 (leastAfter low (h .before)) high (drop next s) ≡ got (x ∷ []) (drop n s) =
+        rw (← h .least-is) (onward-got _ (f .read) ∙ onward-got _ refl) in
+        record {
+          inside = f .inside;
+          most = omega arith;
+          before = h .before ++ (x ∷ []);
+          so-far = entriesIn-more read 1 low high (drop at s) (h .so-far) ∙ onward-got _ one;
+          least-is = y= ∙ sym (least-last low (h .before) x);
+        }

@@ -1,5 +1,3 @@
 pub mod CaseLaws
 pub mod EntryLaws
-pub mod SpanLaws
-pub mod RowsLaws
 pub mod WalkLaws

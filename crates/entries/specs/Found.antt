@@ -1,11 +1,14 @@
--- What the code's answer says of an entry line that is looked for in a text s. Assumes nothing.
-use Prim.Native.Nat.{ℕ}
-use mathlib.Core.List.{List}
+-- What the code's answer says of an entry line, and of several, that are looked for in a text s. Assumes nothing.
+use Prim.Native.Nat.{ℕ, _≤_}
+use mathlib.Core.List.{List, [], _∷_}
 use mathlib.Core.Path.{_≡_}
-use Rattle.text.specs.Reader.{Got, lost}
+use lib.ListN.{length, drop}
+use Rattle.text.specs.Reader.{Got, got, lost}
 use Rattle.text.specs.Found.{Found}
 use Rattle.command.specs.Answers.{ofWords}
 use Rattle.command.specs.Entry.{Entry}
+use Rattle.message.specs.Range.{entryIn, entriesIn}
+use Rattle.entries.specs.declared.Entries.{Entries}
 use Rattle.entries.specs.declared.EntryAt.{EntryAt}
 use Rattle.entries.specs.declared.EntryAt.the-variants.{Is, End}
 
@@ -13,3 +16,18 @@ use Rattle.entries.specs.declared.EntryAt.the-variants.{Is, End}
 abbrev pub FoundEntry : List ℕ → Got Entry → EntryAt → Type 0
 FoundEntry s g (Is t what duration a b n) = Found s g (record { term = t .0; command = ofWords what duration a b }) n
 FoundEntry s g End = g ≡ lost
+
+-- The least term that may follow entries whose terms go from low on.
+unfoldable pub leastAfter : ℕ → List Entry → ℕ
+leastAfter low [] = low
+leastAfter low (e ∷ es) = leastAfter (e .term) es
+
+-- So many entry lines from the place `at` on, their terms in low..high and never falling. Either all are there; or the line that begins at `next`
+-- is not one that may follow those read.
+pub record FoundEntries (s : List ℕ) (at count low high : ℕ) (r : Entries) : Type 0 where
+  pub inside : r .next ≤ length s
+  -- What the lines that were read say, and that no more than those stand between the two places.
+  pub before : List Entry
+  pub so-far : entriesIn (r .read) low high (drop at s) ≡ got before (drop (r .next) s)
+  pub stuck : (r .read ≡ count → ⊥) → entryIn (leastAfter low before) high (drop (r .next) s) ≡ lost
+  pub refused : (r .read ≡ count → ⊥) → entriesIn count low high (drop at s) ≡ lost

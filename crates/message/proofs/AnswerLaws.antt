@@ -3,7 +3,7 @@
 use Prim.Native.Nat.{ℕ}
 use native.Mathlib.Omega.{arith}
 use mathlib.Core.List.{List, [], _∷_}
-use mathlib.Core.Path.{_≡_, ap, refl}
+use mathlib.Core.Path.{_≡_, ap, refl, sym, _∙_}
 use lib.ListN.{length}
 use Rattle.command.specs.Entry.{Entry}
 use Rattle.message.specs.Answer.{bodyAs, fieldsOf, manyIn, messageBy, openingOf, ownIn, saidWith, typeIn}
@@ -126,3 +126,14 @@ unfolding fieldsOf
 message-back m =
     let e = said-back (m .body) in
     λ i. record { term = m .term; from = m .from; to = m .to; body = e i }
+
+-- They have the message's type, and its numbers, each in its slot.
+pub openingOf-fields : (m : Message) → (openingOf (fieldsOf m) .type ≡ typeOf (m .body)) × (openingOf (fieldsOf m) .numbers ≡ numbers m)
+unfolding fieldsOf
+openingOf-fields m =
+    let f = fieldsOf m in
+    let es = entriesOf (m .body) in
+    let back = message-back m in (
+      sym (typeOf-said (f .body) es) ∙ ap (λ (x : Message). typeOf (x .body)) back,
+      sym (numbers-messageBy f es (sym (manyIn-entries (m .body)))) ∙ ap numbers back,
+    )

@@ -6,3 +6,4 @@ pub mod RangeLegal
 pub mod RangeLaws
 pub mod AnswerLaws
 pub mod NoneEmpty
+pub mod JoinLaws

@@ -1,7 +1,6 @@
 -- The reader's answer: one law for each answer of the code. Assumes nothing.
 use Prim.Native.Nat.{_-_, _<_, _≤_, ℕ}
 use borrow.Author.Tests.{le-leb, lt-leb}
-use denote.Ref.{RefT}
 use lib.ListN.{drop, drop-of-length-le, length, length-drop}
 use lib.Seq.{drop-cons}
 use mathlib.Core.Bool.{Bool, false, true}
@@ -11,31 +10,27 @@ use mathlib.Core.Path.{_∙_, _≡_, ap, ap₂, refl, subst, sym}
 use native.Mathlib.Omega.{arith}
 use Rattle.command.specs.Entry.{Entry, legalEntries}
 use Rattle.kinds.specs.Sizes.{text-room}
-use Rattle.text.proofs.CaseLaws.{next-at, next-bad}
 use Rattle.lines.proofs.CaseLaws.{fields-are, fields-bad}
 use Rattle.reader.proofs.WholeLaws.{entriesAfter, messageIn-opening}
 use Rattle.message.proofs.RangeLaws.{entriesIn-is, kept, messageIn-whole}
 use Rattle.message.proofs.TextLaws.{entries-sound}
 use Rattle.message.specs.Answer.{manyIn, messageBy, openingOf}
 use Rattle.message.proofs.AnswerLaws.{entriesOf-said, fields-back, manyIn-count, messageBy-numbers}
-use Rattle.entries.specs.Span.{spanOf}
+use Rattle.span.specs.Span.{spanOf}
 use Rattle.reader.specs.Answer.{outcomeOf, readAs, readOutcome, Reads}
 use Rattle.message.specs.Fields.{messageOf}
 use Rattle.lines.specs.Found.{FoundFields}
 use Rattle.message.specs.Message.{entriesOf}
 use Rattle.message.specs.Opening.{opening}
-use Rattle.reader.specs.Part.{IsPart}
 use Rattle.message.specs.Range.{entriesIn, messageIn}
 use Rattle.message.specs.Text.{entries, entriesText, partFrom, partTo, read}
-use Rattle.message.specs.Walk.{past}
-use Rattle.text.proofs.ReaderLaws.{Went, got-rest, lost-never, onward-got, onward-lost, onward-sound, whole-got}
-use Rattle.text.specs.Found.{FoundNext}
+use Rattle.text.proofs.ReaderLaws.{onward-got, onward-lost, onward-sound, whole-got}
 use Rattle.text.specs.Reader.{Got, got, lost, onward, pure, whole}
 use Rattle.message.specs.declared.Fields.{Fields}
 use Rattle.lines.specs.declared.FieldsAt.{FieldsAt}
-use Rattle.entries.specs.declared.Span.{Span}
-use Rattle.text.specs.declared.Next.{Next}
-use Rattle.text.specs.declared.Next.the-variants.{At, Bad as Next·Bad}
+use Rattle.span.specs.declared.Span.{Span}
+use Rattle.entries.specs.Found.{FoundEntries}
+use Rattle.entries.specs.declared.Entries.{Entries}
 use Rattle.lines.specs.declared.FieldsAt.the-variants.{Are as FieldsAt·Are, Bad as FieldsAt·Bad}
 use Rattle.reader.specs.declared.Read.{Read}
 use Rattle.reader.specs.declared.Read.the-variants.{Message as Read·Message, Refused}
@@ -65,82 +60,74 @@ read-ranged : (s : List ℕ) → length s ≤ text-room → read s ≡ whole (me
 unfolding read
 read-ranged s h = rw (le-leb (length s) text-room h) (messageIn-whole s)
 
--- A longer one is refused.
-pub read-long : (s : List ℕ) → 16_384 < length s → Refused ≡ readAs s (read s)
-unfolding read readAs text-room
-read-long s h = rw (lt-leb (length s) 16_384 h)
+module _ (s : List ℕ) (room : ℕ) (e : room ≡ text-room) where
+  -- A longer one is refused.
+  pub read-long : room < length s → Refused ≡ readAs s (read s)
+  unfolding read readAs
+  read-long h = rw (lt-leb (length s) text-room (omega (arith, e, h)))
 
-module _ (s : List ℕ) (fits : length s ≤ 16_384) (r : FieldsAt) (found : FoundFields s (opening s) r) where
-  ranged : read s ≡ whole (messageIn s)
-  unfolding text-room
-  ranged = read-ranged s fits
+  module _ (fits : length s ≤ room) (r : FieldsAt) (found : FoundFields s (opening s) r) where
+    ranged : read s ≡ whole (messageIn s)
+    ranged = read-ranged s (omega (arith, e, fits))
 
-  refused : messageIn s ≡ lost → Refused ≡ readAs s (read s)
-  unfolding readAs whole
-  refused e = rw (ranged, e)
+    refused : messageIn s ≡ lost → Refused ≡ readAs s (read s)
+    unfolding readAs whole
+    refused h = rw (ranged, h)
 
-  -- The opening is none.
-  pub read-no-opening : r ≡ FieldsAt·Bad → Refused ≡ readAs s (read s)
-  read-no-opening e = refused (messageIn-opening s ∙ onward-lost _ (fields-bad s _ r found e))
+    -- The opening is none.
+    pub read-no-opening : r ≡ FieldsAt·Bad → Refused ≡ readAs s (read s)
+    read-no-opening h = refused (messageIn-opening s ∙ onward-lost _ (fields-bad s _ r found h))
 
-  module _ (f : Fields) (n : ℕ) (e : r ≡ FieldsAt·Are f n) where
-    -- It ends inside the text.
-    pub read-inside : n ≤ length s
-    read-inside = fields-are s _ r found f n e .inside
+    module _ (f : Fields) (n : ℕ) (are : r ≡ FieldsAt·Are f n) where
+      -- It ends inside the text.
+      pub read-inside : n ≤ length s
+      read-inside = fields-are s _ r found f n are .inside
 
-    from-opening : messageIn s ≡ onward (entriesAfter (openingOf f) (drop n s)) (λ es. pure (messageOf (openingOf f .type) (openingOf f .numbers) es))
-    from-opening = messageIn-opening s ∙ onward-got _ (fields-are s _ r found f n e .read)
+      from-opening : messageIn s ≡ onward (entriesAfter (openingOf f) (drop n s)) (λ es. pure (messageOf (openingOf f .type) (openingOf f .numbers) es))
+      from-opening = messageIn-opening s ∙ onward-got _ (fields-are s _ r found f n are .read)
 
-    module _ (sp : Span) (same : sp ≡ spanOf (openingOf f)) (q : Next) (found2 : FoundNext s (past (entriesIn (sp .count) (sp .low) (sp .high) (drop n s))) q) where
-      after : FoundNext s (past (entriesAfter (openingOf f) (drop n s))) q
-      unfolding entriesAfter
-      after = subst (λ (x : Span). FoundNext s (past (entriesIn (x .count) (x .low) (x .high) (drop n s))) q) same found2
+      module _ (sp : Span) (same : sp ≡ spanOf (openingOf f)) (q : Entries) (found2 : FoundEntries s n (sp .count) (sp .low) (sp .high) q) where
+        -- The entries are not all there, or not legal.
+        pub read-no-entries : (q .read ≡ sp .count → ⊥) → Refused ≡ readAs s (read s)
+        unfolding entriesAfter
+        read-no-entries less = refused (from-opening ∙ onward-lost _ (rw (← same) (found2 .refused less)))
 
-      -- The entries are none.
-      pub read-no-entries : q ≡ Next·Bad → Refused ≡ readAs s (read s)
-      unfolding past
-      read-no-entries b = go (entriesAfter (openingOf f) (drop n s)) refl
-        where
-          go : (g : Got (List Entry)) → entriesAfter (openingOf f) (drop n s) ≡ g → Refused ≡ readAs s (read s)
-          go (got es rest) h = absurd (lost-never (sym (next-bad s _ q after b) ∙ onward-got _ h))
-          go lost h = refused (from-opening ∙ onward-lost _ h)
+        module _ (all : q .read ≡ sp .count) where
+          abbrev es : List Entry
+          es = found2 .before
 
-      module _ (end : ℕ) (z : q ≡ At end) where
-        went : Went {B = Unit {0}} (entriesAfter (openingOf f) (drop n s)) (λ es. pure tt) tt (drop end s)
-        unfolding past
-        went = onward-sound (next-at s _ q after end z .read)
+          entered : entriesAfter (openingOf f) (drop n s) ≡ got es (drop (q .next) s)
+          unfolding entriesAfter
+          entered =
+              ap (λ (x : Span). entriesIn (x .count) (x .low) (x .high) (drop n s)) (sym same)
+              ∙ ap (λ (m : ℕ). entriesIn m (sp .low) (sp .high) (drop n s)) (sym all)
+              ∙ found2 .so-far
 
-        entered : entriesAfter (openingOf f) (drop n s) ≡ got (went .value) (drop end s)
-        entered = went .first ∙ ap (got (went .value)) (got-rest (went .next))
+          abbrev said : Said
+          said = messageBy f es
 
-        abbrev said : Said
-        said = messageBy f (went .value)
+          message-is : messageIn s ≡ got said (drop (q .next) s)
+          message-is = from-opening ∙ onward-got _ entered ∙ ap (λ (m : Said). got m (drop (q .next) s)) (sym (messageBy-numbers f es))
 
-        message-is : messageIn s ≡ got said (drop end s)
-        message-is = from-opening ∙ onward-got _ entered ∙ ap (λ (m : Said). got m (drop end s)) (sym (messageBy-numbers f (went .value)))
+          -- More text follows.
+          pub read-more : (q .next ≡ length s → ⊥) → Refused ≡ readAs s (read s)
+          unfolding readAs whole
+          read-more other = rw (ranged, message-is, drop-cons s (q .next) 0 (omega (arith, other, found2 .inside)))
 
-        -- More text follows.
-        pub read-more : (end ≡ length s → ⊥) → Refused ≡ readAs s (read s)
-        unfolding readAs whole
-        read-more other =
-            let w : end ≤ length s = next-at s _ q after end z .inside in
-            rw (ranged, message-is, drop-cons s end 0 (omega (arith, other)))
-
-        -- The text ends there.
-        pub read-all : end ≡ length s → Read·Message f n ≡ readAs s (read s)
-        unfolding readAs partFrom entriesAfter spanOf
-        read-all ends =
-            let o = openingOf f in
-            let es = went .value in
-            let none-left : drop end s ≡ [] = drop-of-length-le s {i = end} (omega arith) in
-            let g : entriesIn (spanOf o .count) (spanOf o .low) (spanOf o .high) (drop n s) ≡ got es [] = entered ∙ ap (got es) none-left in
-            let are = entries-sound (spanOf o .count) (drop n s) (entries-plain (spanOf o .count) (spanOf o .low) (spanOf o .high) (drop n s) g) in
-            let is : read s ≡ some said = ranged ∙ whole-got (message-is ∙ ap (got said) none-left) in
-            let many : length es ≡ manyIn (f .body) = are .count ∙ sym (manyIn-count f) in
-            let held : entriesOf (said .body) ≡ es = entriesOf-said (f .body) es many in
-            let l : length (drop n s) ≡ length (entriesText es) = ap length (are .split) ∙ ap length (append-nil (entriesText es)) in
-            let p : n ≡ length s - length (entriesText (entriesOf (said .body))) = rw held (omega (arith, l, length-drop n s, read-inside)) in
-            ap₂ (λ (x : Fields) (m : ℕ). Read·Message x m) (sym (fields-back f es many)) p ∙ ap (readAs s) (sym is)
+          -- The text ends there.
+          pub read-all : q .next ≡ length s → Read·Message f n ≡ readAs s (read s)
+          unfolding readAs partFrom entriesAfter spanOf
+          read-all ends =
+              let o = openingOf f in
+              let none-left : drop (q .next) s ≡ [] = drop-of-length-le s {i = q .next} (omega arith) in
+              let g : entriesIn (spanOf o .count) (spanOf o .low) (spanOf o .high) (drop n s) ≡ got es [] = entered ∙ ap (got es) none-left in
+              let so = entries-sound (spanOf o .count) (drop n s) (entries-plain (spanOf o .count) (spanOf o .low) (spanOf o .high) (drop n s) g) in
+              let is : read s ≡ some said = ranged ∙ whole-got (message-is ∙ ap (got said) none-left) in
+              let many : length es ≡ manyIn (f .body) = so .count ∙ sym (manyIn-count f) in
+              let held : entriesOf (said .body) ≡ es = entriesOf-said (f .body) es many in
+              let l : length (drop n s) ≡ length (entriesText es) = ap length (so .split) ∙ ap length (append-nil (entriesText es)) in
+              let p : n ≡ length s - length (entriesText (entriesOf (said .body))) = rw held (omega (arith, l, length-drop n s, read-inside)) in
+              ap₂ (λ (x : Fields) (m : ℕ). Read·Message x m) (sym (fields-back f es many)) p ∙ ap (readAs s) (sym is)
 
 -- ---- the part that holds the entry lines
 
@@ -171,11 +158,3 @@ module _ (s : List ℕ) (o : Option Said) (r : Read) (e : r ≡ readAs s o) wher
       go : (x : Option Said) → Refused ≡ readAs s x → (0 ≡ partFrom s x) × (0 ≡ partTo s x)
       go none k = (refl, refl)
       go (some m) k = absurd (let z : _≡_ {A = ℕ} 0 1 = cc in omega arith)
-
--- A part by other names of its ends.
-pub part-same : (s r : RefT (List ℕ)) (a e b f : ℕ) → IsPart s a e r → (a ≡ b) × (e ≡ f) → IsPart s b f r
-part-same s r a e b f p (x, y) = subst (λ (k : ℕ). IsPart s b k r) y (subst (λ (k : ℕ). IsPart s k e r) x p)
-
--- Of one text no two parts are both right: they are the same bytes at the same place.
-pub part-one : (s r q : RefT (List ℕ)) (a e : ℕ) → IsPart s a e r → IsPart s a e q → (r .now ≡ q .now) × (r .ptr .0 ≡ q .ptr .0) × (r .ptr .1 ≡ q .ptr .1)
-part-one s r q a e x y = (x .bytes ∙ sym (y .bytes), x .block ∙ sym (y .block), x .place ∙ sym (y .place))

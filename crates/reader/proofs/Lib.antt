@@ -1,2 +1,3 @@
 pub mod WholeLaws
 pub mod AnswerLaws
+pub mod PartLaws

@@ -10,7 +10,7 @@ use Rattle.message.specs.Message.{Message}
 use Rattle.message.specs.Opening.{Opening, opening, typeLine}
 use Rattle.message.specs.Range.{entriesIn, linesIn, messageIn}
 use Rattle.message.specs.Text.{type=, typeAmong, types}
-use Rattle.entries.specs.Span.{spanOf}
+use Rattle.span.specs.Span.{spanOf}
 
 -- What follows an opening.
 unfoldable pub entriesAfter : Opening → Reader (List Entry)

@@ -4,13 +4,9 @@ ghost use Prim.Native.Nat.{_≤_};
 ghost use lib.ListN.{length};
 ghost use Rattle.message.specs.Text.{read, partFrom, partTo};
 ghost use Rattle.reader.specs.Answer.{Reads};
-ghost use Rattle.reader.specs.Part.{IsPart};
+ghost use Rattle.reader.specs.Part.{IsPart, IsRest};
 use lines::FieldsAt;
 use message::Fields;
-use text::Next;
-
-// The longest text of a message.
-const TEXT_ROOM: usize = 16384;
 
 // What reading a message finds: its fields, and where its entry lines begin. Refused is outcome 4.
 pub enum Read {
@@ -22,18 +18,19 @@ pub enum Read {
 pub fn read_message(s: &[u8]) -> Read
     ensures { λ r. ⌜ Reads (now (s .entry)) r ⌝ }
 {
-    if TEXT_ROOM < s.len() {
+    if kinds::text_room() < s.len() {
         return Read::Refused;
     }
     let FieldsAt::Are { fields, next } = lines::opening_in(s) else {
         return Read::Refused;
     };
-    let span = entries::span_of(fields);
+    let span = span::span_of(fields);
     let table = hex::hex_table();
-    let Next::At(end) = entries::entries_in(s, &table, next, span.count, span.low, span.high) else {
+    let found = entries::entries_in(s, &table, next, span.count, span.low, span.high);
+    if found.read != span.count {
         return Read::Refused;
-    };
-    if end != s.len() {
+    }
+    if found.next != s.len() {
         return Read::Refused;
     }
     Read::Message {
@@ -42,12 +39,24 @@ pub fn read_message(s: &[u8]) -> Read
     }
 }
 
+// ---- the part of a text that holds the entry lines
+
 // The bytes of s from a to e, where they lie.
 fn part<'a>(s: &'a [u8], a: usize, e: usize) -> &'a [u8]
     requires { ⌜ (a ≤ e) × (e ≤ length (now s)) ⌝ }
     ensures { λ r. ⌜ IsPart (s .entry) a e r ⌝ }
 {
     &s[a..e]
+}
+
+// The text from a place on, and no copy of it; from a place beyond the end, the empty part at the end.
+pub fn lines_of<'a>(s: &'a [u8], entries: usize) -> &'a [u8]
+    ensures { λ r. ⌜ IsRest (s .entry) entries r ⌝ }
+{
+    if s.len() < entries {
+        return part(s, s.len(), s.len());
+    }
+    part(s, entries, s.len())
 }
 
 // The part of the text that holds the entry lines, and no copy of it: empty at the end of the text without entry lines, and empty at
@@ -58,5 +67,5 @@ pub fn entry_lines<'a>(s: &'a [u8]) -> &'a [u8]
     let Read::Message { fields: _, entries } = read_message(s) else {
         return part(s, 0, 0);
     };
-    part(s, entries, s.len())
+    lines_of(s, entries)
 }

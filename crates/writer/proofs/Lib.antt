@@ -1,3 +1,1 @@
 pub mod PartsLaws
-pub mod LegalLaws
-pub mod WrittenLaws

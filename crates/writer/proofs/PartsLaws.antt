@@ -5,6 +5,7 @@ use native.Mathlib.Omega.{arith}
 use mathlib.Core.Path.{_≡_, refl, sym, _∙_, ap}
 use mathlib.Core.List.{List, [], _∷_, _++_, append-assoc, append-nil}
 use lib.ListN.{length}
+use Rattle.kinds.specs.Sizes.{row-size}
 use Rattle.kinds.specs.declared.Place.{Place}
 use Rattle.kinds.specs.declared.Term.{Term}
 use Rattle.text.specs.Ascii.{ascii}
@@ -28,7 +29,7 @@ use Rattle.message.specs.Fields.{
 }
 use Rattle.message.specs.Text.{type=, name, linesText, entriesText, text}
 use Rattle.message.specs.Answer.{typeIn, ownIn, openingOf, manyIn, messageBy}
-use Rattle.entries.specs.Span.{spanOf}
+use Rattle.span.specs.Span.{spanOf}
 use Rattle.rows.specs.Rows.{entryOf}
 use Rattle.rows.proofs.RowLaws.{rowsIn-length}
 use Rattle.message.specs.Rows.{rowEntries}
@@ -36,59 +37,14 @@ use Rattle.message.specs.Write.{messageWith, Puts}
 use Rattle.message.specs.declared.Body.{Body}
 use Rattle.message.specs.declared.Body.the-variants.{VoteRequest, VoteYes, VoteNo, Append, AppendYes, AppendNo}
 use Rattle.message.specs.declared.Fields.{Fields}
-use Rattle.entries.specs.declared.Span.{Span}
+use Rattle.span.specs.declared.Span.{Span}
 use Rattle.message.proofs.AnswerLaws.{manyIn-count, typeOf-said, entriesOf-said, numbers-messageBy}
 use Rattle.message.proofs.ReadLaws.{text-most}
-use Rattle.entries.proofs.RowsLaws.{room-first, room-next}
-use Rattle.writer.specs.Parts.{twoLines, typeText, headText, ownText}
-
--- ---- a text by another name
-
--- There is room for it,
-pub room-as : {a b : List ℕ} → a ≡ b → (l : List ℕ) (at : ℕ) → at + length a ≤ length l → at + length b ≤ length l
-room-as e l at h = rw (← e) h
-
--- also at the start,
-pub room-start : {a b : List ℕ} → a ≡ b → (l : List ℕ) → length a ≤ length l → 0 + length b ≤ length l
-room-start e l h = omega (arith, h, ap length e)
-
--- and it is written.
-pub wrote-as : {a b l m : List ℕ} {at p : ℕ} → a ≡ b → Wrote l at b p m → Wrote l at a p m
-wrote-as e w = rw e w
-
--- Nothing is written.
-pub wrote-none : {l : List ℕ} {at : ℕ} → Wrote l at [] at l
-wrote-none = record { to = omega arith; text = refl }
-
--- ---- a text of two parts
-
--- The text w is a and b behind it.
-pub record Joins (w a b : List ℕ) : Type 0 where
-  pub is : w ≡ a ++ b
-
--- There is room for the first.
-pub joins-room : {w a b : List ℕ} → Joins w a b → (l : List ℕ) (at : ℕ) → at + length w ≤ length l → at + length a ≤ length l
-joins-room {w} {a} {b} j l at h = room-first l a b at (rw (j .is) at h)
-
--- Behind it there is room for the second.
-pub joins-next : {w a b l m : List ℕ} {at p : ℕ} → Joins w a b → at + length w ≤ length l → Wrote l at a p m → p + length b ≤ length m
-joins-next {w} {a} {b} {l} {m} {at} {p} j h v = room-next l m a b at p (rw (j .is) at h) v
-
--- Both are the text.
-pub joins-wrote : {w a b l m n : List ℕ} {at p q : ℕ} → Joins w a b → Wrote l at a p m → Wrote m p b q n → Wrote l at w q n
-joins-wrote j v u = wrote-as (j .is) (wrote-then v u)
+use Rattle.message.proofs.JoinLaws.{Joins, room-first, room-next, wrote-as}
+use Rattle.heading.specs.Heading.{twoLines, typeText, headText}
+use Rattle.writer.specs.Parts.{ownText}
 
 -- ---- the lines of each type
-
--- Two lines.
-pub two-lines : (key other : List ℕ) (x y : ℕ) → Joins (twoLines key x other y) (lineText key x) (lineText other y)
-two-lines key other x y = record { is = refl }
-
--- The lines term, from and to.
-pub head-lines : (f : Fields) {t x y : ℕ} → t ≡ f .term .0 → x ≡ f .from .0 → y ≡ f .to .0
-    → Joins (headText f) (twoLines (ascii "term=") t (ascii "from=") x) (lineText (ascii "to=") y)
-unfolding headText linesText
-head-lines f p q r = record { is = rw (p, q, r) (simp (append-assoc, append-nil)) }
 
 -- A vote-request's own.
 pub request-lines : (last : Place) (ballot : Term) {x y : ℕ} → x ≡ last .0 → y ≡ ballot .0
@@ -96,11 +52,10 @@ pub request-lines : (last : Place) (ballot : Term) {x y : ℕ} → x ≡ last .0
 unfolding ownText ownFields linesText
 request-lines last ballot p q = rw (p, q) (simp append-nil)
 
--- A vote-yes's own.
-pub yes-lines : (last : Place) (ballot : Term) (count : ℕ) {x y : ℕ} → x ≡ last .0 → y ≡ ballot .0
-    → Joins (ownText (VoteYes last ballot count)) (twoLines (ascii "last=") x (ascii "ballot=") y) (lineText (ascii "count=") count)
+-- A vote-yes's own: those of a vote-request, and the count.
+pub yes-lines : (last : Place) (ballot : Term) (count : ℕ) → Joins (ownText (VoteYes last ballot count)) (ownText (VoteRequest last ballot)) (lineText (ascii "count=") count)
 unfolding ownText ownFields linesText
-yes-lines last ballot count p q = record { is = rw (p, q) (simp (append-assoc, append-nil)) }
+yes-lines last ballot count = record { is = simp (append-assoc, append-nil) }
 
 -- A vote-no has none.
 pub no-lines : ownText VoteNo ≡ []
@@ -200,7 +155,7 @@ module _ (f : Fields) (rows l : List ℕ) (puts : Puts f rows l) where
 
       module _ (o : ℕ) (k : List ℕ) (owned : Wrote n q (ownText (f .body)) o k) (count : ℕ) (e : count ≡ manyIn (f .body)) where
         -- and for the entry lines, whose rows are there.
-        pub room-rows : (20 * count ≤ length rows) × (o + length (entriesText (rowEntries count rows)) ≤ length k)
+        pub room-rows : (count * row-size ≤ length rows) × (o + length (entriesText (rowEntries count rows)) ≤ length k)
         room-rows = (omega (arith, puts .held), rw e (room-next n k (ownText (f .body)) (entryLines f rows) q o after-head owned))
 
         -- All of them are the text.

@@ -1,45 +1,44 @@
--- `entries::entries_in` meets its contract. The loop's invariant: i lies in the text, and what is past all entries is what is past those that
--- are left, from i on and with terms from `least` on. The measure is how many are left. Assumes nothing.
-use Prim.Native.Nat.{_≤_}
+-- `entries::entries_in` meets its contract. The loop's invariant: so many lines were read, the next begins inside the text, and its term is at
+-- least that of the last. The measure is how many are left. Assumes nothing.
+use Prim.Native.Nat.{_-_}
+use native.Mathlib.Omega.{arith}
 use borrow.Author.Needs.{needs}
-use lib.ListN.{drop, length}
-use mathlib.Core.Path.{_≡_}
-use Rattle.entries.proofs.EntryLaws.{walk-again, walk-done, walk-inside, walk-none}
-use Rattle.message.specs.Range.{entriesIn}
-use Rattle.message.specs.Walk.{past}
+use Rattle.entries.proofs.EntryLaws.{Walking, walking-none, walking-done, walking-stuck, walking-again}
 use Rattle.entries.proofs.entries_in.Statement.{statement}
 use Rattle.entries.proofs.entries_in.Tie as tie
 
 abbrev Inv-loop : tie.InvT-loop
-Inv-loop s table at count low high i₀ left₀ least₀ i left least =
-    (i ≤ length s) × (past (entriesIn count low high (drop at s)) ≡ past (entriesIn left least high (drop i s)))
+Inv-loop s table at count low high next₀ read₀ least₀ next read least = Walking s at count low high next read least
 
 abbrev μ-loop : tie.MeasureT-loop
-μ-loop s table at count low high i₀ left₀ least₀ i left least = left
+μ-loop s table at count low high next₀ read₀ least₀ next read least = count - read
 
--- The next is none.
-none : tie.Need-returns Inv-loop μ-loop
-none c =
+-- At first no line was read.
+begins : tie.Need-loop-holds Inv-loop μ-loop
+begins c =
+    let start = c .before in
+    walking-none (start .args .s .now) (start .args .at) (start .args .count) (start .args .low) (start .args .high) (start .pre .0)
+
+-- The next line is none.
+stuck : tie.Need-returns Inv-loop μ-loop
+stuck c =
     let at-entry-in = c .before .before in
     let at-loop-test = at-entry-in .before in
-    let at-loop = at-loop-test .before in
-    let start = at-loop .before .before in
-    walk-none (start .args .s .now) (start .args .at) (start .args .count) (start .args .low) (start .args .high) (at-loop .loop .i) (at-loop .loop .left) (at-loop .loop .least) (at-loop .loop .inv .1) (at-loop-test .loop-test .taken) (at-entry-in .entry-in .result) (at-entry-in .entry-in .ensures) (c .enum-told .given .1)
+    walking-stuck (at-loop-test .before .loop .inv) (at-loop-test .loop-test .taken) (at-entry-in .entry-in .result) (at-entry-in .entry-in .ensures)
+    (c .enum-told .given .1)
 
--- The next is passed.
+-- It was read.
 again : tie.Need-loop-again Inv-loop μ-loop
 again c =
     let at-term = c .before .before in
     let at-entry-in = at-term .before .before in
     let at-loop-test = at-entry-in .before in
-    let at-loop = at-loop-test .before in
-    let start = at-loop .before .before in
-    (walk-inside (start .args .s .now) (start .args .at) (start .args .count) (start .args .low) (start .args .high) (at-loop .loop .i) (at-loop .loop .left) (at-loop .loop .least) (at-loop .loop .inv .1) (at-loop-test .loop-test .taken) (at-entry-in .entry-in .result) (at-entry-in .entry-in .ensures) _ _ _ _ _ _ (at-term .term .given .1), walk-again (start .args .s .now) (start .args .at) (start .args .count) (start .args .low) (start .args .high) (at-loop .loop .i) (at-loop .loop .left) (at-loop .loop .least) (at-loop .loop .inv .1) (at-loop-test .loop-test .taken) (at-entry-in .entry-in .result) (at-entry-in .entry-in .ensures) _ _ _ _ _ _ (at-term .term .given .1) _ (c .number .ensures))
+    walking-again (at-loop-test .before .loop .inv) (at-loop-test .loop-test .taken) (at-entry-in .entry-in .result) (at-entry-in .entry-in .ensures)
+    (at-term .term .given .1) (c .number .ensures)
 
--- All were passed.
+-- No line is left.
 done : tie.Need-returns-2 Inv-loop μ-loop
-done c =
-    search (needs, walk-done)
+done c = walking-done (c .before .loop .inv) (λ m. omega arith)
 
 pub entries-in-spec : {M : Type 1} → statement M
 entries-in-spec =
@@ -47,11 +46,11 @@ entries-in-spec =
     (tie.spec
     Inv-loop
     μ-loop
-    (λ c. search needs)
+    begins
     (λ c κs. search needs)
     (λ c. search needs)
     (λ c. search needs)
-    none
+    stuck
     (λ c κs. search needs)
     (λ c. search needs)
     (λ c. search needs)

@@ -1,6 +1,7 @@
 -- `reader::entry_lines` meets its contract: the part that the reader's answer names. Assumes nothing.
 use borrow.Author.Needs.{needs}
-use Rattle.reader.proofs.AnswerLaws.{part-message, part-refused, part-same, part-within}
+use Rattle.reader.proofs.AnswerLaws.{part-message, part-refused, part-within}
+use Rattle.reader.proofs.PartLaws.{part-same, rest-part}
 use Rattle.message.specs.Text.{read}
 use Rattle.reader.proofs.entry_lines.Statement.{statement}
 use Rattle.reader.proofs.entry_lines.Tie as tie
@@ -13,21 +14,17 @@ at-start c =
     let start = at-read-message .before .before in
     part-same (start .args .s) (c .part .result) 0 0 _ _ (c .part .ensures) (part-refused (start .args .s .now) (read (start .args .s .now)) (at-read-message .read-message .result) (at-read-message .read-message .ensures .answer) (at-enum-told .enum-told .given .1))
 
--- The entry lines begin in the text.
-within : tie.Need-part-requires-2
-within c κs =
-    let at-entries = c .before in
-    let at-read-message = at-entries .before .before in
-    let start = at-read-message .before .before in
-    (part-within (start .args .s .now) (read (start .args .s .now)) (at-read-message .read-message .result) (at-read-message .read-message .ensures .answer) _ _ (at-entries .entries .given .1), search needs)
-
--- A message.
+-- A message: its entry lines begin in the text and go to its end.
 entry-part : tie.Need-returns-2
 entry-part c =
     let at-entries = c .before .before in
     let at-read-message = at-entries .before .before in
-    let start = at-read-message .before .before in
-    part-same (start .args .s) (c .part2 .result) _ _ _ _ (c .part2 .ensures) (part-message (start .args .s .now) (read (start .args .s .now)) (at-read-message .read-message .result) (at-read-message .read-message .ensures .answer) _ _ (at-entries .entries .given .1))
+    let s = at-read-message .before .before .args .s in
+    let is = at-entries .entries .given .1 in
+    let answer = at-read-message .read-message .ensures .answer in
+    let within = part-within (s .now) (read (s .now)) (at-read-message .read-message .result) answer _ _ is in
+    part-same s (c .lines-of .result) _ _ _ _ (rest-part s (c .lines-of .result) _ within (c .lines-of .ensures))
+    (part-message (s .now) (read (s .now)) (at-read-message .read-message .result) answer _ _ is)
 
 pub entry-lines-spec : {M : Type 1} → statement M
 entry-lines-spec =
@@ -38,5 +35,5 @@ entry-lines-spec =
     (λ c. search needs)
     (λ c κs. search needs)
     at-start
-    within
+    (λ c κs. search needs)
     entry-part)

@@ -1,7 +1,8 @@
 -- `writer::write_append` meets its contract: prev and prevterm, then chosen and the count. Assumes nothing.
 use mathlib.Core.Path.{refl}
 use borrow.Author.Needs.{needs}
-use Rattle.writer.proofs.PartsLaws.{joins-room, joins-next, joins-wrote, append-lines}
+use Rattle.message.proofs.JoinLaws.{joins-room, joins-next, joins-wrote}
+use Rattle.writer.proofs.PartsLaws.{append-lines}
 use Rattle.writer.proofs.write_append.Statement.{statement}
 use Rattle.writer.proofs.write_append.Tie as tie
 

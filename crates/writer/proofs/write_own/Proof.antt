@@ -2,7 +2,8 @@
 use mathlib.Core.Path.{_∙_, ap}
 use borrow.Author.Needs.{needs}
 use Rattle.writer.specs.Parts.{ownText}
-use Rattle.writer.proofs.PartsLaws.{room-as, wrote-as, wrote-none, no-lines, end-line, length-line}
+use Rattle.message.proofs.JoinLaws.{room-as, wrote-as, wrote-none}
+use Rattle.writer.proofs.PartsLaws.{no-lines, end-line, length-line}
 use Rattle.writer.proofs.write_own.Statement.{statement}
 use Rattle.writer.proofs.write_own.Tie as tie
 

@@ -1,6 +1,7 @@
 -- `writer::write_request` meets its contract: two lines. Assumes nothing.
 use borrow.Author.Needs.{needs}
-use Rattle.writer.proofs.PartsLaws.{room-as, wrote-as, request-lines}
+use Rattle.message.proofs.JoinLaws.{room-as, wrote-as}
+use Rattle.writer.proofs.PartsLaws.{request-lines}
 use Rattle.writer.proofs.write_request.Statement.{statement}
 use Rattle.writer.proofs.write_request.Tie as tie
 
