@@ -1,1 +1,3 @@
 pub mod WrittenLaws
+pub mod ToldLaws
+pub mod LeftLaws

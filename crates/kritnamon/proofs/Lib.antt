@@ -1,3 +1,1 @@
-pub mod NumbersLaws
-pub mod WriteLaws
 pub mod GroupLaws

@@ -1,4 +1,1 @@
-pub mod Message
-pub mod Numbers
 pub mod Version
-pub mod Write
