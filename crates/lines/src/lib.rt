@@ -1,5 +1,4 @@
 // The lines of a message before its entries, read from a lent text: one loop reads those of every type, by the table of fields.
-ghost use mathlib.Core.Path.{_≡_};
 ghost use Prim.Native.Nat.{_≤_};
 ghost use lib.ListN.{length, drop};
 ghost use Rattle.message.specs.Text.{key, typeAmong, types};

@@ -1,7 +1,6 @@
 -- Laws of the code's own types for what a message says: the message of fields has the fields' type and numbers, each in its slot, and fields
 -- and messages give each other back. Assumes nothing.
 use Prim.Native.Nat.{ℕ}
-use native.Mathlib.Omega.{arith}
 use mathlib.Core.List.{List, [], _∷_}
 use mathlib.Core.Path.{_≡_, ap, refl, sym, _∙_}
 use lib.ListN.{length}

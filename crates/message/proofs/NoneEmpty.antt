@@ -4,7 +4,6 @@ use Prim.Native.Nat.{ℕ, _-_, _≤_, _<_, max}
 use native.Mathlib.Omega.{arith}
 use mathlib.Core.Bool.{cond}
 use mathlib.Core.List.{List, [], _∷_}
-use mathlib.Core.Path.{_≡_}
 use borrow.Author.Tests.{eqb-false}
 use lib.Dec.{eqb}
 use Rattle.kinds.specs.Sizes.{limit}
@@ -19,7 +18,6 @@ use Rattle.message.specs.Fields.{
   type=append-no,
   Field,
   term=,
-  from=,
   to=,
   last=,
   prev=,

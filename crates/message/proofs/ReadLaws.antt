@@ -2,7 +2,7 @@
 -- is the one way to write that message, which is legal. The part handed back is exactly the entry lines. Assumes nothing.
 use Prim.Native.Nat.{ℕ, _+_, _-_, _*_, _≤_}
 use native.Mathlib.Omega.{arith}
-use mathlib.Core.Path.{_≡_, refl, sym, _∙_, ap}
+use mathlib.Core.Path.{_≡_, sym, _∙_, ap}
 use mathlib.Core.Bool.{true, _&&_}
 use mathlib.Core.List.{List, [], _∷_, _++_, append-assoc, append-nil}
 use mathlib.Core.Option.{Option, none, some}
@@ -54,7 +54,7 @@ use Rattle.message.specs.Fields.{
   typeOf,
   numbers,
 }
-use Rattle.message.specs.Text.{type=, name, key, linesText, entryText, entriesText, text, message, ifLegal, read, partFrom, partTo}
+use Rattle.message.specs.Text.{type=, name, key, linesText, entryText, entriesText, text, message, ifLegal, read, partFrom}
 use Rattle.message.proofs.LegalLaws.{Most, most-at, legal-held}
 use Rattle.message.proofs.TextLaws.{AllRanged, message-written, message-sound}
 
@@ -212,8 +212,3 @@ part-entries s m h =
     let e : s ≡ textHead m ++ entriesText (entriesOf (m .body)) = sym (read-sound s m h .text-is) ∙ text-parts m in
     let n : length (textHead m) ≡ length s - length (entriesText (entriesOf (m .body))) = omega (arith, ap length e ∙ length-append (textHead m) (entriesText (entriesOf (m .body)))) in
     ap (λ (l : List ℕ). drop (length s - length (entriesText (entriesOf (m .body)))) l) e ∙ drop-at (textHead m) (entriesText (entriesOf (m .body))) _ n
-
--- It ends where the text ends, and it lies within the text.
-pub part-inside : (s : List ℕ) (m : Message) → (partFrom s (some m) ≤ partTo s (some m)) × (partTo s (some m) ≡ length s)
-unfolding partFrom partTo
-part-inside s m = (omega arith, refl)

@@ -1,11 +1,11 @@
--- A walk over entry lines: one at a time, past all of them, and what all of them say. Assumes nothing.
+-- A walk over entry lines: one at a time, and what all of them say. Assumes nothing.
 use Prim.Native.Nat.{ℕ}
 use mathlib.Core.Bool.{true}
 use mathlib.Core.List.{List, []}
 use mathlib.Core.Path.{_≡_}
 use lib.ListN.{length}
 use Rattle.kinds.specs.Sizes.{term-most}
-use Rattle.text.specs.Reader.{Got, got, lost, Reader, onward, _>>=_, _>>_, pure, literal}
+use Rattle.text.specs.Reader.{got, lost, Reader, _>>=_, _>>_, pure, literal}
 use Rattle.text.specs.Hex.{hexBytes}
 use Rattle.text.specs.Line.{LF}
 use Rattle.text.specs.Range.{numberIn}
@@ -21,10 +21,6 @@ entryLine low high = do
   bytes ← hexBytes command-size
   literal LF
   pure (record { term = term; command = commandOf bytes })
-
--- What is left behind a find, whatever was found.
-unfoldable pub past : {A : Type 0} → Got A → Got (Unit {0})
-past g = onward g (λ a. pure tt)
 
 -- The entries of so many entry lines; none if they do not stand there.
 unfoldable pub entriesFrom : ℕ → List ℕ → List Entry

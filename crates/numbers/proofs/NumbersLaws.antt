@@ -3,16 +3,16 @@
 use Prim.Native.Nat.{ℕ}
 use native.Mathlib.Omega.{arith}
 use mathlib.Core.Path.{_≡_, refl, sym, _∙_, ap, ap₂, subst}
-use mathlib.Core.Bool.{Bool, true, false, _&&_, and-true, and-assoc}
+use mathlib.Core.Bool.{Bool, false, _&&_, and-true, and-assoc}
 use mathlib.Core.List.{List, [], _∷_}
 use borrow.Author.Tests.{ne-eqb}
 use lib.Dec.{eqb}
 use lib.ListN.{length, drop, getD}
 use lib.Seq.{sets}
 use Rattle.command.proofs.Tests.{by-test}
-use Rattle.message.specs.Message.{Message, entriesOf}
-use Rattle.message.specs.Fields.{MessageType, numbers, typeOf}
-use Rattle.message.specs.Answer.{openingOf, ownIn, fieldsOf, typeIn}
+use Rattle.message.specs.Message.{Message}
+use Rattle.message.specs.Fields.{MessageType}
+use Rattle.message.specs.Answer.{ownIn, fieldsOf, typeIn}
 use Rattle.message.specs.declared.Body.{Body}
 use Rattle.message.specs.declared.Body.the-variants.{VoteRequest, VoteYes, VoteNo, Append, AppendYes, AppendNo}
 use Rattle.message.specs.declared.Fields.{Fields}

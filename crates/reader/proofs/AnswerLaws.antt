@@ -3,10 +3,9 @@ use Prim.Native.Nat.{_-_, _<_, _≤_, ℕ}
 use borrow.Author.Tests.{le-leb, lt-leb}
 use lib.ListN.{drop, drop-of-length-le, length, length-drop}
 use lib.Seq.{drop-cons}
-use mathlib.Core.Bool.{Bool, false, true}
-use mathlib.Core.List.{List, [], _∷_, append-nil}
+use mathlib.Core.List.{List, [], append-nil}
 use mathlib.Core.Option.{Option, none, some}
-use mathlib.Core.Path.{_∙_, _≡_, ap, ap₂, refl, subst, sym}
+use mathlib.Core.Path.{_∙_, _≡_, ap, ap₂, refl, sym}
 use native.Mathlib.Omega.{arith}
 use Rattle.command.specs.Entry.{Entry, legalEntries}
 use Rattle.kinds.specs.Sizes.{text-room}
@@ -25,7 +24,7 @@ use Rattle.message.specs.Opening.{opening}
 use Rattle.message.specs.Range.{entriesIn, messageIn}
 use Rattle.message.specs.Text.{entries, entriesText, partFrom, partTo, read}
 use Rattle.text.proofs.ReaderLaws.{onward-got, onward-lost, onward-sound, whole-got}
-use Rattle.text.specs.Reader.{Got, got, lost, onward, pure, whole}
+use Rattle.text.specs.Reader.{got, lost, onward, pure, whole}
 use Rattle.message.specs.declared.Fields.{Fields}
 use Rattle.lines.specs.declared.FieldsAt.{FieldsAt}
 use Rattle.span.specs.declared.Span.{Span}

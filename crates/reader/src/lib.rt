@@ -1,5 +1,4 @@
 // Reading messages from a lent text, where their entries stay, as rules R27 to R31 have it.
-ghost use mathlib.Core.Path.{_≡_};
 ghost use Prim.Native.Nat.{_≤_};
 ghost use lib.ListN.{length};
 ghost use Rattle.message.specs.Text.{read, partFrom, partTo};

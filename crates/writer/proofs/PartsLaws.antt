@@ -1,6 +1,6 @@
 -- Laws of the parts of a message's text: the lines of each type, that the parts and the entry lines are the whole text, and the room for each
 -- part. Assumes nothing.
-use Prim.Native.Nat.{ℕ, suc, _+_, _*_, _≤_}
+use Prim.Native.Nat.{ℕ, _+_, _*_, _≤_}
 use native.Mathlib.Omega.{arith}
 use mathlib.Core.Path.{_≡_, refl, sym, _∙_, ap}
 use mathlib.Core.List.{List, [], _∷_, _++_, append-assoc, append-nil}
@@ -34,7 +34,6 @@ use Rattle.rows.specs.Rows.{entryOf}
 use Rattle.rows.proofs.RowLaws.{rowsIn-length}
 use Rattle.message.specs.Rows.{rowEntries}
 use Rattle.message.specs.Write.{messageWith, Puts}
-use Rattle.message.specs.declared.Body.{Body}
 use Rattle.message.specs.declared.Body.the-variants.{VoteRequest, VoteYes, VoteNo, Append, AppendYes, AppendNo}
 use Rattle.message.specs.declared.Fields.{Fields}
 use Rattle.span.specs.declared.Span.{Span}
