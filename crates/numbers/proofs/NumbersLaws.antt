@@ -1,14 +1,15 @@
 -- Laws of a message's eight numbers: the code's fields have the message's numbers, numbers give their fields back, and how the code puts and
 -- compares them. Assumes nothing.
-use Prim.Native.Nat.{ℕ}
+use Prim.Native.Nat.{ℕ, suc, _+_, _≤_, _<_}
+use native.Mathlib.Numerals.{add-one}
 use native.Mathlib.Omega.{arith}
-use mathlib.Core.Path.{_≡_, refl, sym, _∙_, ap, ap₂, subst}
-use mathlib.Core.Bool.{Bool, false, _&&_, and-true, and-assoc}
+use mathlib.Core.Path.{_≡_, refl, sym, _∙_, ap, ap₂}
+use mathlib.Core.Bool.{Bool, true, false, _&&_}
 use mathlib.Core.List.{List, [], _∷_}
-use borrow.Author.Tests.{ne-eqb}
+use borrow.Author.Tests.{eq-eqb, ne-eqb}
 use lib.Dec.{eqb}
-use lib.ListN.{length, drop, getD}
-use lib.Seq.{sets}
+use lib.ListN.{length, drop, getD, drop-of-length-le}
+use lib.Seq.{sets, drop-cons}
 use Rattle.command.proofs.Tests.{by-test}
 use Rattle.message.specs.Message.{Message}
 use Rattle.message.specs.Fields.{MessageType}
@@ -17,7 +18,7 @@ use Rattle.message.specs.declared.Body.{Body}
 use Rattle.message.specs.declared.Body.the-variants.{VoteRequest, VoteYes, VoteNo, Append, AppendYes, AppendNo}
 use Rattle.message.specs.declared.Fields.{Fields}
 use Rattle.message.proofs.AnswerLaws.{openingOf-fields}
-use Rattle.message.proofs.FieldsLaws.{tab, spelled}
+use Rattle.message.proofs.FieldsLaws.{spelled}
 use Rattle.fields.specs.Table.{fieldsBy}
 use Rattle.fields.specs.declared.Kind.{Kind}
 use Rattle.fields.specs.declared.Kind.the-variants.{AppendNo as Kind·AppendNo}
@@ -81,18 +82,6 @@ module _ (ns : List ℕ) where
   pub eight-put : (o : List ℕ) → length o ≡ 8 → sets ns 0 (at o 0 ∷ at o 1 ∷ at o 2 ∷ at o 3 ∷ at o 4 ∷ at o 5 ∷ at o 6 ∷ at o 7 ∷ []) ≡ sets ns 0 o
   eight-put o h = ap (λ (l : List ℕ). sets ns 0 l) (spelled 8 o h)
 
-  -- Compared one by one, as the code joins the tests.
-  abbrev Eight : List ℕ → Bool
-  Eight o =
-      (eqb (at o 0) (at ns 0) && (eqb (at o 1) (at ns 1) && (eqb (at o 2) (at ns 2) && eqb (at o 3) (at ns 3))))
-      && (eqb (at o 4) (at ns 4) && (eqb (at o 5) (at ns 5) && (eqb (at o 6) (at ns 6) && eqb (at o 7) (at ns 7))))
-
-  pub eight-same : (o : List ℕ) → length o ≡ 8 → length ns ≡ 8 → Eight o ≡ same o ns
-  unfolding same
-  eight-same o h k =
-      subst (λ (l : List ℕ). Eight o ≡ same l ns) (spelled 8 o h)
-      (subst (λ (l : List ℕ). Eight o ≡ same (tab 8 (at o)) l) (spelled 8 ns k) (simp (and-assoc, and-true)))
-
   -- The numbers behind the first.
   pub seven-taken : length ns ≡ 8 → at ns 1 ∷ at ns 2 ∷ at ns 3 ∷ at ns 4 ∷ at ns 5 ∷ at ns 6 ∷ at ns 7 ∷ [] ≡ drop 1 ns
   seven-taken h = ap (λ (l : List ℕ). drop 1 l) (spelled 8 ns h)
@@ -102,6 +91,36 @@ module _ (ns : List ℕ) where
       → f ≡ fieldsBy k (at ns 1 ∷ at ns 2 ∷ at ns 3 ∷ at ns 4 ∷ at ns 5 ∷ at ns 6 ∷ at ns 7 ∷ []) → f ≡ fieldsWith ns
   unfolding fieldsWith
   fields-taken h k= f= = f= ∙ ap₂ (λ (k : Kind) (l : List ℕ). fieldsBy k l) k= (seven-taken h)
+
+-- Compared one by one: up to the place i they are the same, so the rest decides.
+pub record Alike (o ns : List ℕ) (i : ℕ) : Type 0 where
+  pub own-eight : length o ≡ message-numbers
+  pub eight : length ns ≡ message-numbers
+  pub rest : same o ns ≡ same (drop i o) (drop i ns)
+
+pub alike-first : (o ns : List ℕ) → length o ≡ message-numbers → length ns ≡ message-numbers → Alike o ns 0
+alike-first o ns h k = record { own-eight = h; eight = k; rest = refl }
+
+module _ {o ns : List ℕ} {i : ℕ} (a : Alike o ns i) where
+  -- All are.
+  pub alike-all : message-numbers ≤ i → true ≡ same o ns
+  unfolding same
+  alike-all h =
+      sym (a .rest ∙ rw (drop-of-length-le o {i = i} (omega (arith, a .own-eight)), drop-of-length-le ns {i = i} (omega (arith, a .eight))))
+
+  module _ (more : i < message-numbers) where
+    next : same o ns ≡ (eqb (getD o i 0) (getD ns i 0) && same (drop (suc i) o) (drop (suc i) ns))
+    unfolding same
+    next = a .rest ∙ rw (drop-cons o i 0 (omega (arith, a .own-eight)), drop-cons ns i 0 (omega (arith, a .eight)))
+
+    -- The next are not.
+    pub alike-not : (getD o i 0 ≡ getD ns i 0 → ⊥) → false ≡ same o ns
+    alike-not h = sym (next ∙ rw (ne-eqb (getD o i 0) (getD ns i 0) h))
+
+    -- The next are.
+    pub alike-again : getD o i 0 ≡ getD ns i 0 → Alike o ns (i + 1)
+    alike-again h =
+        record { own-eight = a .own-eight; eight = a .eight; rest = next ∙ rw (eq-eqb (getD o i 0) (getD ns i 0) h, add-one) }
 
 -- What is no number of a type but 6 is read as 6.
 pub kind-last : (n : ℕ) → (n ≡ 1 → ⊥) → (n ≡ 2 → ⊥) → (n ≡ 3 → ⊥) → (n ≡ 4 → ⊥) → (n ≡ 5 → ⊥) → kindWith n ≡ Kind·AppendNo

@@ -74,10 +74,14 @@ pub fn are_numbers(numbers: &[u32], f: Fields) -> bool
     ensures { λ r. ⌜ r ≡ same (numbersIn f) (now (numbers .entry)) ⌝ }
 {
     let own = numbers_of(f);
-    let head = (own[2] == numbers[2]) & (own[3] == numbers[3]);
-    let rest = (own[6] == numbers[6]) & (own[7] == numbers[7]);
-    let first = (own[0] == numbers[0]) & ((own[1] == numbers[1]) & head);
-    first & ((own[4] == numbers[4]) & ((own[5] == numbers[5]) & rest))
+    let mut i: usize = 0;
+    while i < MANY {
+        if own[i] != numbers[i] {
+            return false;
+        }
+        i += 1;
+    }
+    true
 }
 
 // ---- from numbers to fields
