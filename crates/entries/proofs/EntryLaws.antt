@@ -13,7 +13,8 @@ use Rattle.command.specs.Command.{Command, commandOf, legalCommand}
 use Rattle.command.specs.Entry.{Entry}
 use Rattle.command.specs.Words.{part, value, word, wordAt}
 use Rattle.kinds.specs.Of.{term}
-use Rattle.entries.proofs.CaseLaws.{entry-at, entry-none, next-at, next-bad, number-bad, number-is, words-are, words-bad}
+use Rattle.entries.proofs.CaseLaws.{entry-at, entry-none}
+use Rattle.text.proofs.CaseLaws.{next-at, next-bad, number-is, number-bad, words-are, words-bad}
 use Rattle.entries.specs.Found.{FoundEntry, FoundEntries, leastAfter}
 use Rattle.message.specs.Range.{entriesIn, entryIn, legalOnly}
 use Rattle.message.specs.Text.{entry=}
