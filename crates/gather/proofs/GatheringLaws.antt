@@ -87,7 +87,7 @@ pub record Gathering (whole : List ℕ) (ballot count held : ℕ) (s l : List �
   pub rest : List Entry
   pub left : n + length rest ≡ count
   pub legal : legalEntries 1 term-most rest ≡ true
-  -- Their lines stand in the text from i on.
+  -- Their lines stand from i on.
   pub lines : drop i s ≡ entriesText rest
   -- Their rows lie within the bytes.
   pub inside : at + length rest * row-size ≤ length l
@@ -96,17 +96,17 @@ pub record Gathering (whole : List ℕ) (ballot count held : ℕ) (s l : List �
 
 -- None has come yet.
 pub gathering-starts :
-    (l : List ℕ) (at held ballot count : ℕ) (s : List ℕ) (i : ℕ) → at + count * row-size ≤ length l → Lie count (drop i s)
-    → Gathering (gatheredInto l at held ballot (entriesFrom count (drop i s))) ballot count held s l i at 0
-gathering-starts l at held ballot count s i room lie =
+    (l : List ℕ) (at held ballot count : ℕ) (s : List ℕ) → at + count * row-size ≤ length l → Lie count s
+    → Gathering (gatheredInto l at held ballot (entriesFrom count s)) ballot count held s l 0 at 0
+gathering-starts l at held ballot count s room lie =
     let all : held ≡ held - 0 = omega arith in
     record {
-      rest = entriesFrom count (drop i s);
+      rest = entriesFrom count s;
       left = omega (arith, lie .count-is);
       legal = lie .legal;
       lines = lie .text-is;
       inside = omega (arith, lie .count-is);
-      answer = ap (λ (m : ℕ). gatheredInto l at m ballot (entriesFrom count (drop i s))) all;
+      answer = ap (λ (m : ℕ). gatheredInto l at m ballot (entriesFrom count s)) all;
     }
 
 module _ {whole s l : List ℕ} {ballot count held i at n : ℕ} (g : Gathering whole ballot count held s l i at n) where

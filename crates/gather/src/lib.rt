@@ -2,7 +2,7 @@
 ghost use mathlib.Core.Path.{_≡_};
 ghost use mathlib.Core.Bool.{false};
 ghost use Prim.Native.Nat.{_+_, _-_, _*_, _≤_, max};
-ghost use lib.ListN.{length, drop, getD};
+ghost use lib.ListN.{length, getD};
 ghost use Rattle.kinds.specs.Sizes.{row-size};
 ghost use Rattle.message.specs.Walk.{entriesFrom, Lie};
 ghost use Rattle.state.specs.Image.{stateIn};
@@ -33,21 +33,13 @@ fn gather_row(state: &mut [u8], at: usize, held: bool, ballot: Term, c: Words)
     rows::put_row(state, at, ballot.number(), c);
 }
 
-// Gathers so many entries of this ballot, whose lines stand in the text, into the rows from a place on, of which so many are held.
-fn gather_in(
-    state: &mut [u8],
-    first: usize,
-    held: u32,
-    ballot: Term,
-    count: u32,
-    text: &[u8],
-    at: usize,
-)
-    requires { ⌜ (first + count * row-size ≤ length (now state)) × Lie count (drop at (now text)) ⌝ }
-    ensures { λ _. ⌜ now (state .exit) ≡ gatheredInto (now (state .entry)) first held (ballot .0) (entriesFrom count (drop at (now (text .entry)))) ⌝ }
+// Gathers so many entries of this ballot, whose lines these are, into the rows from a place on, of which so many are held.
+fn gather_in(state: &mut [u8], first: usize, held: u32, ballot: Term, count: u32, lines: &[u8])
+    requires { ⌜ (first + count * row-size ≤ length (now state)) × Lie count (now lines) ⌝ }
+    ensures { λ _. ⌜ now (state .exit) ≡ gatheredInto (now (state .entry)) first held (ballot .0) (entriesFrom count (now (lines .entry))) ⌝ }
 {
     let table = hex::hex_table();
-    let mut i = at;
+    let mut i = 0;
     let mut row = first;
     let mut n: u32 = 0;
     while n < count {
@@ -58,7 +50,7 @@ fn gather_in(
             a,
             b,
             next,
-        } = entries::next_entry(text, &table, i, 1, kinds::TERM_MOST)
+        } = entries::next_entry(lines, &table, i, 1, kinds::TERM_MOST)
         else {
             // Never: a line stands there for each entry.
             return;
@@ -124,11 +116,10 @@ pub fn hear_yes(
     from: Hub,
     ballot: Term,
     count: u32,
-    text: &[u8],
-    at: usize,
+    lines: &[u8],
 ) -> bool
-    requires { ⌜ Hears (whoIn g) (now state) (from .0) (ballot .0) count (drop at (now text)) ⌝ }
-    ensures { λ r. ⌜ Ruled (heardYes (whoIn g) (stateIn (now (state .entry))) (from .0) (ballot .0) (entriesFrom count (drop at (now (text .entry))))) (now (state .entry)) r (now (state .exit)) ⌝ }
+    requires { ⌜ Hears (whoIn g) (now state) (from .0) (ballot .0) count (now lines) ⌝ }
+    ensures { λ r. ⌜ Ruled (heardYes (whoIn g) (stateIn (now (state .entry))) (from .0) (ballot .0) (entriesFrom count (now (lines .entry)))) (now (state .entry)) r (now (state .exit)) ⌝ }
 {
     let h = head::read_head(state);
     if h.role != kinds::CANDIDATE {
@@ -138,7 +129,7 @@ pub fn hear_yes(
         return false;
     }
     let first = head::row_at(h.length.number());
-    gather_in(state, first, h.gathered.number(), ballot, count, text, at);
+    gather_in(state, first, h.gathered.number(), ballot, count, lines);
     count_votes(g, add_voter(h, from, count), state);
     true
 }

@@ -1,8 +1,8 @@
-// append at a hub of its term that does not lead: a follower that takes the message's entries if they fit. The entry lines stay in the lent text;
+// append at a hub of its term that does not lead: a follower that takes the message's entries if they fit. The entry lines stay in the lent part;
 // each entry goes from its line into its row.
 ghost use mathlib.Core.Path.{_≡_};
 ghost use Prim.Native.Nat.{_+_, _*_, _≤_};
-ghost use lib.ListN.{length, drop};
+ghost use lib.ListN.{length};
 ghost use lib.Seq.{sets};
 ghost use Rattle.kinds.specs.Sizes.{row-size};
 ghost use Rattle.message.specs.Walk.{entriesFrom, Lie};
@@ -20,14 +20,14 @@ use state::Head;
 
 // ---- the rows
 
-// Writes the rows of so many entry lines of the text, from a place of the state's bytes on. The lines stand there, so the walk finds each of them.
-fn put_entries(state: &mut [u8], row: usize, count: u32, text: &[u8], at: usize)
-    requires { ⌜ Lie count (drop at (now text)) × (row + count * row-size ≤ length (now state)) ⌝ }
-    ensures { λ _. ⌜ now (state .exit) ≡ sets (now (state .entry)) row (bytesOf logRow (entriesFrom count (drop at (now (text .entry))))) ⌝ }
+// Writes the rows of so many entry lines, from a place of the state's bytes on. The lines stand there, so the walk finds each of them.
+fn put_entries(state: &mut [u8], row: usize, count: u32, lines: &[u8])
+    requires { ⌜ Lie count (now lines) × (row + count * row-size ≤ length (now state)) ⌝ }
+    ensures { λ _. ⌜ now (state .exit) ≡ sets (now (state .entry)) row (bytesOf logRow (entriesFrom count (now (lines .entry)))) ⌝ }
 {
     let table = hex::hex_table();
     let mut to = row;
-    let mut from = at;
+    let mut from = 0;
     let mut left = count;
     while 0 < left {
         let EntryAt::Is {
@@ -37,7 +37,7 @@ fn put_entries(state: &mut [u8], row: usize, count: u32, text: &[u8], at: usize)
             a,
             b,
             next,
-        } = entries::next_entry(text, &table, from, 1, kinds::TERM_MOST)
+        } = entries::next_entry(lines, &table, from, 1, kinds::TERM_MOST)
         else {
             return;
         };
@@ -80,11 +80,10 @@ fn take_in(
     prevterm: Term,
     chosen: Place,
     count: u32,
-    text: &[u8],
-    at: usize,
+    lines: &[u8],
 ) -> bool
-    requires { ⌜ Heard (whoIn g) h (now state) (prev .0) (prevterm .0) (chosen .0) count (drop at (now text)) ⌝ }
-    ensures { λ r. ⌜ (r ≡ fits (stateIn (now (state .entry)) .kept) (prev .0) (prevterm .0) (prev .0 + count)) × (now (state .exit) ≡ image (takenBy (stateIn (now (state .entry))) (prev .0) (prevterm .0) (chosen .0) (entriesFrom count (drop at (now (text .entry)))))) ⌝ }
+    requires { ⌜ Heard (whoIn g) h (now state) (prev .0) (prevterm .0) (chosen .0) count (now lines) ⌝ }
+    ensures { λ r. ⌜ (r ≡ fits (stateIn (now (state .entry)) .kept) (prev .0) (prevterm .0) (prev .0 + count)) × (now (state .exit) ≡ image (takenBy (stateIn (now (state .entry))) (prev .0) (prevterm .0) (chosen .0) (entriesFrom count (now (lines .entry))))) ⌝ }
 {
     let end = Place::of(prev.number() + count);
     if !fits::is_fitting(g, h, prev, prevterm, end, state) {
@@ -95,7 +94,7 @@ fn take_in(
         head::write_head(state, turns::take_head(h, most, h.length));
         return true;
     }
-    put_entries(state, head::row_at(prev.number()), count, text, at);
+    put_entries(state, head::row_at(prev.number()), count, lines);
     head::write_head(state, turns::take_head(h, most, end));
     true
 }
@@ -108,12 +107,11 @@ pub fn take_append(
     prevterm: Term,
     chosen: Place,
     count: u32,
-    text: &[u8],
-    at: usize,
+    lines: &[u8],
 ) -> bool
-    requires { ⌜ HearsAppend (whoIn g) (now state) (prev .0) (prevterm .0) (chosen .0) count (drop at (now text)) ⌝ }
-    ensures { λ r. ⌜ (r ≡ fits (stateIn (now (state .entry)) .kept) (prev .0) (prevterm .0) (prev .0 + count)) × (now (state .exit) ≡ image (takenBy (stateIn (now (state .entry))) (prev .0) (prevterm .0) (chosen .0) (entriesFrom count (drop at (now (text .entry)))))) ⌝ }
+    requires { ⌜ HearsAppend (whoIn g) (now state) (prev .0) (prevterm .0) (chosen .0) count (now lines) ⌝ }
+    ensures { λ r. ⌜ (r ≡ fits (stateIn (now (state .entry)) .kept) (prev .0) (prevterm .0) (prev .0 + count)) × (now (state .exit) ≡ image (takenBy (stateIn (now (state .entry))) (prev .0) (prevterm .0) (chosen .0) (entriesFrom count (now (lines .entry))))) ⌝ }
 {
     let h = follow_in(g, state);
-    take_in(g, h, state, prev, prevterm, chosen, count, text, at)
+    take_in(g, h, state, prev, prevterm, chosen, count, lines)
 }

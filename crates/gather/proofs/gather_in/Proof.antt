@@ -3,7 +3,7 @@
 use Prim.Native.Nat.{_-_}
 use mathlib.Core.Path.{_≡_, refl}
 use native.Mathlib.Omega.{arith}
-use lib.ListN.{length, drop}
+use lib.ListN.{length}
 use borrow.Author.Needs.{needs}
 use Rattle.message.specs.Walk.{entriesFrom}
 use Rattle.gather.specs.Gather.{gatheredInto}
@@ -12,17 +12,17 @@ use Rattle.gather.proofs.gather_in.Statement.{statement}
 use Rattle.gather.proofs.gather_in.Tie as tie
 
 abbrev Inv-loop : tie.InvT-loop
-Inv-loop state₀ first held ballot count text at table i₀ row₀ n₀ state i row n =
-    (length state ≡ length state₀) × Gathering (gatheredInto state₀ first held (ballot .0) (entriesFrom count (drop at text))) (ballot .0) count held text state i row n
+Inv-loop state₀ first held ballot count lines table i₀ row₀ n₀ state i row n =
+    (length state ≡ length state₀) × Gathering (gatheredInto state₀ first held (ballot .0) (entriesFrom count lines)) (ballot .0) count held lines state i row n
 
 abbrev μ-loop : tie.MeasureT-loop
-μ-loop state₀ first held ballot count text at table i₀ row₀ n₀ state i row n = count - n
+μ-loop state₀ first held ballot count lines table i₀ row₀ n₀ state i row n = count - n
 
 -- None is gathered yet.
 begins : tie.Need-loop-holds Inv-loop μ-loop
 begins c =
     let start = c .before .before .before in
-    (refl, gathering-starts _ _ _ _ _ _ _ (start .pre .0) (start .pre .1))
+    (refl, gathering-starts _ _ _ _ _ _ (start .pre .0) (start .pre .1))
 
 -- The table is one of hex digits.
 lent : tie.Need-next-entry-requires Inv-loop μ-loop

@@ -27,7 +27,7 @@ seen c =
     let at-head = at-if1 .before .before in
     heard-seen _ _ _ _ _ _ (at-head .before .before .before .before .pre) (at-head .read-head .ensures) (at-if1 .if1 .left) (sym (c .before .has-voted .ensures) ∙ c .if2 .taken)
 
--- The entries' rows lie within the table, and their lines stand in the text.
+-- The entries' rows lie within the table, and their lines stand there.
 may-gather : tie.Need-gather-in-requires
 unfolding state-size
 may-gather c κs =

@@ -16,14 +16,14 @@ use Rattle.replace.proofs.put_entries.Tie as tie
 use Rattle.kinds.specs.Sizes.{row-size}
 
 abbrev Inv-loop : tie.InvT-loop
-Inv-loop state₀ row count text at table to₀ from₀ left₀ state to from left =
-    Lie left (drop from text)
+Inv-loop state₀ row count lines table to₀ from₀ left₀ state to from left =
+    Lie left (drop from lines)
     × (to + left * row-size ≤ length state)
     × (length state ≡ length state₀)
-    × (sets state₀ row (bytesOf logRow (entriesFrom count (drop at text))) ≡ sets state to (bytesOf logRow (entriesFrom left (drop from text))))
+    × (sets state₀ row (bytesOf logRow (entriesFrom count lines)) ≡ sets state to (bytesOf logRow (entriesFrom left (drop from lines))))
 
 abbrev μ-loop : tie.MeasureT-loop
-μ-loop state₀ row count text at table to₀ from₀ left₀ state to from left = left
+μ-loop state₀ row count lines table to₀ from₀ left₀ state to from left = left
 
 -- A line stands there.
 found : tie.Need-returns Inv-loop μ-loop
