@@ -1,2 +1,1 @@
-pub mod ConfirmedLaws
 pub mod EndLaws

@@ -7,7 +7,8 @@ ghost use Rattle.state.specs.Image.{stateIn};
 ghost use Rattle.rules.specs.Events.{termAt};
 ghost use Rattle.rules.specs.Receive.{fits};
 ghost use Rattle.promise.specs.Promise.{whoIn};
-ghost use Rattle.promise.specs.Append.{follows, Tested};
+ghost use Rattle.promise.specs.Append.{Tested};
+ghost use Rattle.fits.specs.Follows.{follows};
 use kinds::Place;
 use kinds::Term;
 use promise::Caller;
@@ -18,7 +19,7 @@ pub fn term_of(g: Caller, h: Head, p: Place, state: &[u8]) -> Term
     requires { ⌜ Tested (whoIn g) h (now state) × (1 ≤ p .0) × (p .0 ≤ h .length .0) ⌝ }
     ensures { λ r. ⌜ r ≡ term (termAt (stateIn (now (state .entry)) .kept .log) (p .0)) ⌝ }
 {
-    Term::of(words::get32(state, head::row_at(p.number() - 1)))
+    Term::of(words::get32(state, head::row_after(p) - kinds::ROW))
 }
 
 // Prev is 0, or prev ≤ length and the entry there has term prevterm.
@@ -43,5 +44,5 @@ pub fn is_fitting(g: Caller, h: Head, prev: Place, prevterm: Term, end: Place, s
     if !is_following(g, h, prev, prevterm, state) {
         return false;
     }
-    h.ballot.equals(h.term) | (h.length.number() <= end.number())
+    h.ballot.equals(h.term) | !end.below(h.length)
 }

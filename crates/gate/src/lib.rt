@@ -21,7 +21,7 @@ fn is_fit(g: Caller, event: u32, state: &[u8]) -> bool
     if event == kinds::RESTART {
         return legal::is_kept_legal(state);
     }
-    legal::is_legal(g.size, g.own.number(), state)
+    legal::is_legal(g.size, g.own, state)
 }
 
 // The refusals before every event, in the order of rule R32: 1, 2, 3; 0 if there is none.

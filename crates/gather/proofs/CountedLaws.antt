@@ -37,12 +37,11 @@ module _ (w : Who) (h : Head) (l : List ℕ) {c : ℕ} (ec : c ≡ count (λ v. 
 
   -- A majority.
   pub counted-majority :
-      majority (w .size) ≤ c → {n long at t : ℕ} {l1 l2 : List ℕ} {f : Head} → n ≡ h .gathered .0 → long ≡ h .length .0
-      → at ≡ head-size + long * row-size → t ≡ h .term .0 → l1 ≡ renumbered l at n t → f ≡ leading h (w .own) n → l2 ≡ sets l1 0 (bytesOfHead f)
-      → l2 ≡ countedInto w h l
+      majority (w .size) ≤ c → {n at : ℕ} {l1 l2 : List ℕ} {f : Head} → at ≡ head-size + h .length .0 * row-size → n ≡ h .gathered .0
+      → l1 ≡ renumbered l at n (h .term .0) → f ≡ leading h (w .own) → l2 ≡ sets l1 0 (bytesOfHead f) → l2 ≡ countedInto w h l
   unfolding countedInto
-  counted-majority enough en elong eat et e1 ef e2 =
-      rw (le-leb (majority (w .size)) (count (λ v. v) (h .voters)) (omega arith)) (rw (e2, e1, ef, et, eat, elong, en))
+  counted-majority enough eat en e1 ef e2 =
+      rw (le-leb (majority (w .size)) (count (λ v. v) (h .voters)) (omega arith)) (rw (e2, e1, ef, eat, en))
 
 -- ---- the bytes
 
@@ -80,8 +79,8 @@ module _
         go :
             (b : Bool)
             → cond b
-            (sets (renumbered (head ++ rows) (head-size + length (k .log) * row-size) (length more) (k .term)) 0 (bytesOfHead (leading new (w .own) (length more))))
+            (sets (renumbered (head ++ rows) (head-size + length (k .log) * row-size) (length more) (k .term)) 0 (bytesOfHead (leading new (w .own))))
             (sets (head ++ rows) 0 (bytesOfHead new))
             ≡ image (cond b (leads w (joined k more) (replicate hubs-most 0)) stands)
-        go true = rw (leading-head w k more (candidate voters more)) (lead-written w k more head long room)
+        go true = rw (leading-head w k more voters) (lead-written w k more head long room)
         go false = stands-written

@@ -2,6 +2,7 @@
 use Prim.Native.Nat.{ℕ, _+_, _-_, _*_, _≤_}
 use native.Mathlib.Omega.{arith}
 use mathlib.Core.Path.{_≡_, refl, sym, _∙_, ap}
+use mathlib.Core.Bool.{Bool}
 use mathlib.Core.List.{List, [], _∷_, _++_, map, map-append, append-assoc, append-nil}
 use lib.ListN.{length, getD, replicate, length-append, length-map, length-set}
 use lib.Seq.{sets, getD-append-seam}
@@ -10,7 +11,7 @@ use Rattle.kinds.specs.Sizes.{Who, hubs-most, limit, row-size}
 use Rattle.command.specs.Words.{word}
 use Rattle.command.specs.Entry.{Entry}
 use Rattle.command.proofs.WordsLaws.{word-length}
-use Rattle.state.specs.State.{Kept, Pair, Lost, State}
+use Rattle.state.specs.State.{Kept, Pair, candidate, State}
 use Rattle.rows.specs.Rows.{Row, rowBytes, entryRow, rowOf}
 use Rattle.state.specs.Image.{head-size, roleOf, votersOf, gatheredOf, confirmedOf, image}
 use Rattle.state.specs.Head.{bytesOfHead, headOf}
@@ -26,7 +27,7 @@ use Rattle.rules.specs.Receive.{joined}
 use Rattle.promise.specs.Heads.{leading}
 use Rattle.rows.specs.Words.{renumbered}
 use Rattle.promise.proofs.HeadsLaws.{places-set}
-use Rattle.gather.proofs.RowLaws.{row-over}
+use Rattle.pairs.proofs.RowLaws.{row-over}
 
 -- A row with another number.
 abbrev numbered : ℕ → Row → Row
@@ -48,7 +49,7 @@ one-more head long xs y ys room t =
     ∙ row-over head long xs y ys (numbered t y) room
 
 -- All rows behind the first ones have another number.
-pub renumbered-table :
+renumbered-table :
     (head : List ℕ) → length head ≡ head-size → (xs ys : List Row) → length (xs ++ ys) ≤ limit → (t : ℕ)
     → renumbered (head ++ table (xs ++ ys)) (head-size + length xs * row-size) (length ys) t ≡ head ++ table (xs ++ map (numbered t) ys)
 unfolding renumbered
@@ -79,9 +80,9 @@ module _ (w : Who) (k : Kept) (gathered : List Pair) where
       append-nil (map entryRow (k .log ++ new)) ∙ map-append entryRow (k .log) new ∙ rw (joined-rows (k .term) gathered)
 
   -- The head of a candidate that leads.
-  pub leading-head : (l : Lost) → leading (headOf k l) (w .own) (length gathered) ≡ headOf (next .kept) (next .lost)
+  pub leading-head : (voters : List Bool) → leading (headOf k (candidate voters gathered)) (w .own) ≡ headOf (next .kept) (next .lost)
   unfolding leading headOf leads joined roleOf votersOf gatheredOf confirmedOf
-  leading-head l =
+  leading-head voters =
       let at-term : Pair → Entry = λ g. record { term = k .term; command = g .command } in
       let new = map at-term gathered in
       let long : length (k .log ++ new) ≡ length (k .log) + length gathered = length-append (k .log) new ∙ rw (length-map gathered at-term) in

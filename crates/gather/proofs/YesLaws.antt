@@ -3,36 +3,38 @@ use Prim.Native.Nat.{ℕ, _+_, _-_, _*_, _≤_, max}
 use native.Mathlib.Omega.{arith}
 use mathlib.Core.Path.{_≡_, refl, sym, _∙_, ap}
 use mathlib.Core.Bool.{Bool, true, false, not}
-use mathlib.Core.List.{List, [], _∷_, _++_, map}
+use mathlib.Core.List.{List, _++_, map}
 use mathlib.Core.Option.{none}
-use borrow.Author.Tests.{eqb-true, ltb-true, not-false}
-use lib.Dec.{leb, ltb, eqb}
+use borrow.Author.Tests.{eqb-true, not-false}
+use lib.Dec.{ltb, eqb}
 use lib.ListN.{length, getD, set, length-map, length-set}
-use Rattle.kinds.specs.Sizes.{Who, hubs-most, term-most, limit, row-size}
+use Rattle.kinds.specs.Role.{as-candidate}
+use Rattle.kinds.specs.Sizes.{Who, hubs-most, limit, row-size}
 use Rattle.command.specs.Entry.{Entry}
 use Rattle.message.specs.Message.{vote-yes}
 use Rattle.message.specs.Walk.{entriesFrom}
 use Rattle.state.specs.declared.Head.{Head}
-use Rattle.state.specs.State.{Kept, Pair, Lost, follower, candidate, leader, State}
-use Rattle.state.specs.Legal.{all, legalPair, legalLost, legalState}
+use Rattle.state.specs.State.{Kept, Lost, follower, candidate, leader, State}
+use Rattle.state.specs.Legal.{legalLost, legalState}
 use Rattle.rows.specs.Rows.{Row, entryRow}
 use Rattle.state.specs.Image.{head-size, roleOf, votersOf, gatheredOf, confirmedOf, image, stateIn}
 use Rattle.state.specs.Head.{headIn, bytesOfHead, headOf}
 use Rattle.state.specs.Table.{pairRow, rowsOf, table}
 use Rattle.state.proofs.HeadLaws.{bytesOfHead-length}
 use Rattle.state.proofs.ImageLaws.{image-is}
+use Rattle.state.proofs.TableLaws.{pairs-fit}
 use Rattle.rules.specs.Events.{isCandidate}
 use Rattle.rules.specs.Receive.{idle, effect, gather, counted, heardYes, contradicts}
-use Rattle.rows.proofs.BoolLaws.{and-first, and-second, or-first}
+use Rattle.rows.proofs.BoolLaws.{or-first}
 use Rattle.state.proofs.LegalLaws.{legalCandidate-is, legalState-kept, legalState-lost}
 use Rattle.message.proofs.LegalLaws.{IsYes, yes-is}
 use Rattle.rules.proofs.GatherLaws.{gather-length}
 use Rattle.promise.specs.Promise.{Ready, Ruled}
-use Rattle.gather.specs.Gather.{gatheredInto}
+use Rattle.pairs.specs.Gather.{gatheredInto}
 use Rattle.promise.proofs.PromiseLaws.{ready-image, ready-legal, ready-size, ready-head, ready-role, ready-length, ready-gathered, ready-who}
 use Rattle.promise.proofs.LostLaws.{rows-within}
 use Rattle.promise.proofs.PromiseLaws.{idle-ruled, effect-ruled}
-use Rattle.gather.proofs.GatherLaws.{Small, none-there, one-more, gathered-table}
+use Rattle.pairs.proofs.GatherLaws.{gathered-table}
 use Rattle.gather.specs.Yes.{Hears, Counts, withVoter, countedInto}
 use Rattle.gather.proofs.CountedLaws.{counted-written, voter-head}
 
@@ -40,14 +42,14 @@ use Rattle.gather.proofs.CountedLaws.{counted-written, voter-head}
 
 module _ (w : Who) (k : Kept) (from ballot : ℕ) (entries : List Entry) where
   -- At another role.
-  yes-other : (l : Lost) → (roleOf l ≡ 1 → ⊥) → heardYes w (record { kept = k; lost = l }) from ballot entries ≡ idle
+  yes-other : (l : Lost) → (roleOf l ≡ as-candidate → ⊥) → heardYes w (record { kept = k; lost = l }) from ballot entries ≡ idle
   unfolding heardYes roleOf
   yes-other follower h = refl
   yes-other (candidate voters gathered) h = absurd (h refl)
   yes-other (leader confirmed) h = refl
 
   -- From a voter seen before.
-  yes-seen : (l : Lost) → roleOf l ≡ 1 → getD (votersOf l) (from - 1) false ≡ true → heardYes w (record { kept = k; lost = l }) from ballot entries ≡ idle
+  yes-seen : (l : Lost) → roleOf l ≡ as-candidate → getD (votersOf l) (from - 1) false ≡ true → heardYes w (record { kept = k; lost = l }) from ballot entries ≡ idle
   unfolding heardYes roleOf votersOf
   yes-seen follower h e = refl
   yes-seen (candidate voters gathered) h e = rw e
@@ -55,7 +57,7 @@ module _ (w : Who) (k : Kept) (from ballot : ℕ) (entries : List Entry) where
 
   -- From a new voter.
   yes-new :
-      (l : Lost) → roleOf l ≡ 1 → getD (votersOf l) (from - 1) false ≡ false
+      (l : Lost) → roleOf l ≡ as-candidate → getD (votersOf l) (from - 1) false ≡ false
       → heardYes w (record { kept = k; lost = l }) from ballot entries
       ≡ effect (counted w k (set (votersOf l) (from - 1) true) (gather (gatheredOf l) ballot entries)) none
   unfolding heardYes roleOf votersOf gatheredOf
@@ -65,19 +67,9 @@ module _ (w : Who) (k : Kept) (from ballot : ℕ) (entries : List Entry) where
 
 -- ---- what is gathered
 
--- Four bytes hold the ballots of legal pairs.
-pairs-small : (t : ℕ) → t ≤ term-most → (gs : List Pair) → all (legalPair t) gs ≡ true → Small gs
-unfolding all legalPair
-pairs-small t most [] h = none-there
-pairs-small t most (g ∷ gs) h =
-    let here = legalPair t g in
-    let others = all (legalPair t) gs in
-    let below = ltb-true (g .ballot) t (and-first _ _ (and-second (leb 1 (g .ballot)) _ (and-first here others h))) in
-    one-more {g = g} (omega arith) (pairs-small t most gs (and-second here others h))
-
 -- At a candidate, a legal vote-yes that does not contradict has a place behind the log for each entry.
 yes-room :
-    (k : Kept) (l : Lost) (last ballot : ℕ) (es : List Entry) → roleOf l ≡ 1 → IsYes (k .term) last ballot es
+    (k : Kept) (l : Lost) (last ballot : ℕ) (es : List Entry) → roleOf l ≡ as-candidate → IsYes (k .term) last ballot es
     → contradicts (record { kept = k; lost = l }) (vote-yes last ballot es) ≡ false → length (k .log) + length es ≤ limit
 unfolding roleOf contradicts isCandidate
 yes-room k follower last ballot es role fields agrees = absurd (omega arith)
@@ -89,7 +81,7 @@ yes-room k (candidate voters gathered) last ballot es role fields agrees =
 
 -- The entries are gathered, and the vote is counted.
 yes-written :
-    (w : Who) (k : Kept) (l : Lost) (from ballot : ℕ) (es : List Entry) → roleOf l ≡ 1 → legalState w (record { kept = k; lost = l }) ≡ true
+    (w : Who) (k : Kept) (l : Lost) (from ballot : ℕ) (es : List Entry) → roleOf l ≡ as-candidate → legalState w (record { kept = k; lost = l }) ≡ true
     → length (k .log) + length es ≤ limit
     → countedInto w (withVoter (headOf k l) from (max (length (gatheredOf l)) (length es)))
     (gatheredInto (image (record { kept = k; lost = l })) (head-size + length (k .log) * row-size) (length (gatheredOf l)) ballot es)
@@ -108,11 +100,11 @@ yes-written w k (candidate voters gathered) from ballot es role legal room =
     let at : head-size + length (k .log) * row-size ≡ head-size + length entries * row-size = omega arith in
     let more = gather gathered ballot es in
     let size = gather-length gathered ballot es in
-    let small = pairs-small (k .term) (legalState-kept w s legal .term) gathered (c .pairs) in
+    let fit = pairs-fit (k .term) gathered (c .pairs) (legalState-kept w s legal .term) in
     let after = withVoter before from (max (length gathered) (length es)) in
     ap (λ (x : List ℕ). countedInto w after (gatheredInto x (head-size + length (k .log) * row-size) (length gathered) ballot es)) (image-is s)
     ∙ ap (λ (a : ℕ). countedInto w after (gatheredInto (head ++ table (entries ++ map pairRow gathered)) a (length gathered) ballot es)) at
-    ∙ ap (countedInto w after) (gathered-table head long ballot entries gathered es small (omega (arith, c .room)) (omega arith))
+    ∙ ap (countedInto w after) (gathered-table head long ballot entries gathered es fit (omega (arith, c .room)) (omega arith))
     ∙ ap (λ (m : ℕ). countedInto w (withVoter before from m) (head ++ table (entries ++ map pairRow more))) (sym size)
     ∙ ap (λ (x : Head). countedInto w x (head ++ table (entries ++ map pairRow more))) (voter-head k voters gathered more from)
     ∙ counted-written w k (set voters (from - 1) true) (length-set voters (from - 1) true ∙ c .seven) more (omega (arith, c .room)) head long
@@ -144,18 +136,18 @@ module _ (w : Who) (l : List ℕ) (from ballot n : ℕ) (s : List ℕ) (hears : 
   gathered-is = ap (λ (x : Head). x .gathered .0) e ∙ ready-gathered w l ready
 
   -- Another role.
-  pub heard-other : (h .role ≡ 1 → ⊥) → Ruled (heardYes w (stateIn l) from ballot (entriesFrom n s)) l false l
+  pub heard-other : (h .role ≡ as-candidate → ⊥) → Ruled (heardYes w (stateIn l) from ballot (entriesFrom n s)) l false l
   heard-other role = idle-ruled l (yes-other w (stateIn l .kept) from ballot (entriesFrom n s) (stateIn l .lost) (λ f. role (role-is ∙ f)))
 
   -- A voter seen before.
-  pub heard-seen : h .role ≡ 1 → getD (h .voters) (from - 1) false ≡ true → Ruled (heardYes w (stateIn l) from ballot (entriesFrom n s)) l false l
+  pub heard-seen : h .role ≡ as-candidate → getD (h .voters) (from - 1) false ≡ true → Ruled (heardYes w (stateIn l) from ballot (entriesFrom n s)) l false l
   heard-seen role seen =
       idle-ruled l
       (yes-seen w (stateIn l .kept) from ballot (entriesFrom n s) (stateIn l .lost) (sym role-is ∙ role)
       (ap (λ (vs : List Bool). getD vs (from - 1) false) (sym voters-are) ∙ seen))
 
-  module _ (role : h .role ≡ 1) where
-    stands : roleOf (stateIn l .lost) ≡ 1
+  module _ (role : h .role ≡ as-candidate) where
+    stands : roleOf (stateIn l .lost) ≡ as-candidate
     stands = sym role-is ∙ role
 
     room : length (stateIn l .kept .log) + length (entriesFrom n s) ≤ limit
@@ -198,9 +190,9 @@ module _ (w : Who) (l : List ℕ) (from ballot n : ℕ) (s : List ℕ) (hears : 
 
     -- A new voter.
     pub heard-new :
-        getD (h .voters) (from - 1) false ≡ false → {long first held : ℕ} {f : Head} {l1 l2 : List ℕ} → long ≡ h .length .0 → first ≡ head-size + long * row-size
-        → held ≡ h .gathered .0 → l1 ≡ gatheredInto l first held ballot (entriesFrom n s) → f ≡ withVoter h from (max (h .gathered .0) n)
+        getD (h .voters) (from - 1) false ≡ false → {first : ℕ} {f : Head} {l1 l2 : List ℕ} → first ≡ head-size + h .length .0 * row-size
+        → l1 ≡ gatheredInto l first (h .gathered .0) ballot (entriesFrom n s) → f ≡ withVoter h from (max (h .gathered .0) n)
         → l2 ≡ countedInto w f l1 → Ruled (heardYes w (stateIn l) from ballot (entriesFrom n s)) l true l2
-    heard-new new elong efirst eheld e1 ef e2 =
+    heard-new new efirst e1 ef e2 =
         let told = yes-new w (stateIn l .kept) from ballot (entriesFrom n s) (stateIn l .lost) stands (ap (λ (vs : List Bool). getD vs (from - 1) false) (sym voters-are) ∙ new) in
-        effect-ruled _ l _ told (rw (e2, ef, e1, eheld, efirst, elong) written)
+        effect-ruled _ l _ told (rw (e2, ef, e1, efirst) written)

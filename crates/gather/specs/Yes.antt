@@ -1,14 +1,13 @@
--- What a vote-yes makes of a candidate's bytes, part by part: of one row, of the head, and of all of them once the votes are counted. Assumes nothing.
+-- What a vote-yes makes of a candidate's head, and of its bytes once the votes are counted. Assumes nothing.
 use Prim.Native.Nat.{ℕ, _+_, _-_, _*_, _≤_}
 use mathlib.Core.Path.{_≡_}
-use mathlib.Core.Bool.{Bool, true, cond, not, _&&_}
+use mathlib.Core.Bool.{true, cond}
 use mathlib.Core.List.{List}
-use lib.Dec.{leb, ltb}
+use lib.Dec.{leb}
 use lib.ListN.{length, set}
 use lib.Seq.{sets}
 use Rattle.kinds.specs.Of.{place}
 use Rattle.kinds.specs.Sizes.{Who, hubs-most, majority, limit, row-size}
-use Rattle.command.specs.Words.{wordAt}
 use Rattle.state.specs.declared.Head.{Head}
 use Rattle.state.specs.Legal.{count}
 use Rattle.state.specs.Image.{head-size, state-size}
@@ -21,10 +20,6 @@ use Rattle.rows.specs.Words.{renumbered}
 pub record Hears (w : Who) (l : List ℕ) (from ballot count : ℕ) (s : List ℕ) : Type 0 where
   pub last : ℕ
   pub yes : HearsYes w l from last ballot count s
-
--- The bytes after one entry of this ballot came to its row: a held pair stays unless its ballot is lower.
-unfoldable pub rowGathered : List ℕ → ℕ → Bool → ℕ → List ℕ → List ℕ
-rowGathered l at held ballot new = cond (held && not (ltb (wordAt at 4 l) ballot)) l (sets l at new)
 
 -- A candidate's head with one voter more, and n entries gathered.
 unfoldable pub withVoter : Head → ℕ → ℕ → Head
@@ -52,5 +47,5 @@ unfoldable pub countedInto : Who → Head → List ℕ → List ℕ
 countedInto w h l =
     let n = h .gathered .0 in
     cond (leb (majority (w .size)) (count (λ v. v) (h .voters)))
-    (sets (renumbered l (head-size + h .length .0 * row-size) n (h .term .0)) 0 (bytesOfHead (leading h (w .own) n)))
+    (sets (renumbered l (head-size + h .length .0 * row-size) n (h .term .0)) 0 (bytesOfHead (leading h (w .own))))
     (sets l 0 (bytesOfHead h))

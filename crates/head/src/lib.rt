@@ -7,7 +7,6 @@ ghost use lib.Dec.{eqb};
 ghost use lib.ListN.{length, drop};
 ghost use lib.Seq.{sets};
 ghost use Rattle.kinds.specs.Of.{place, term};
-ghost use Rattle.kinds.specs.Hubs.{count};
 ghost use Rattle.kinds.specs.Sizes.{hubs-most, row-size};
 ghost use Rattle.command.specs.Words.{part, word, wordAt};
 ghost use Rattle.rows.specs.Rows.{bytesOf};
@@ -35,7 +34,7 @@ fn place_at(s: &[u8], at: usize) -> Place
 
 // A place for each of the seven hubs.
 fn places_at(s: &[u8], at: usize) -> [Place; 7]
-    requires { ⌜ at + 28 ≤ length (now s) ⌝ }
+    requires { ⌜ at + hubs-most * 4 ≤ length (now s) ⌝ }
     ensures { λ r. ⌜ r ≡ map place (wordsIn hubs-most (drop at (now (s .entry)))) ⌝ }
 {
     let a = place_at(s, at);
@@ -50,7 +49,7 @@ fn places_at(s: &[u8], at: usize) -> [Place; 7]
 
 // Whether each of the seven hubs is among the voters.
 fn voters_at(s: &[u8], at: usize) -> [bool; 7]
-    requires { ⌜ at + 7 ≤ length (now s) ⌝ }
+    requires { ⌜ at + hubs-most ≤ length (now s) ⌝ }
     ensures { λ r. ⌜ r ≡ map (λ b. eqb b 1) (part at hubs-most (now (s .entry))) ⌝ }
 {
     [
@@ -66,7 +65,7 @@ fn voters_at(s: &[u8], at: usize) -> [bool; 7]
 
 // The head that the bytes hold, legal or not.
 pub fn read_head(s: &[u8]) -> Head
-    requires { ⌜ 56 ≤ length (now s) ⌝ }
+    requires { ⌜ head-size ≤ length (now s) ⌝ }
     ensures { λ r. ⌜ r ≡ headIn (now (s .entry)) ⌝ }
 {
     Head {
@@ -99,7 +98,7 @@ fn put_term(s: &mut [u8], at: usize, t: Term)
 
 // Writes the head's five numbers.
 fn put_numbers(s: &mut [u8], h: Head)
-    requires { ⌜ 56 ≤ length (now s) ⌝ }
+    requires { ⌜ head-size ≤ length (now s) ⌝ }
     ensures { λ _. ⌜ now (s .exit) ≡ sets (now (s .entry)) 0 (numberBytes h) ⌝ }
 {
     put_term(s, 0, h.term);
@@ -111,7 +110,7 @@ fn put_numbers(s: &mut [u8], h: Head)
 
 // Writes a byte for each voter: 1 for one that was seen.
 fn put_voters(s: &mut [u8], at: usize, vs: [bool; 7])
-    requires { ⌜ at + 7 ≤ length (now s) ⌝ }
+    requires { ⌜ at + hubs-most ≤ length (now s) ⌝ }
     ensures { λ _. ⌜ now (s .exit) ≡ sets (now (s .entry)) at (flags vs) ⌝ }
 {
     let mut i = 0;
@@ -128,7 +127,7 @@ fn flag(b: bool) -> u8
 }
 
 fn put_places(s: &mut [u8], at: usize, ps: [Place; 7])
-    requires { ⌜ at + 28 ≤ length (now s) ⌝ }
+    requires { ⌜ at + hubs-most * 4 ≤ length (now s) ⌝ }
     ensures { λ _. ⌜ now (s .exit) ≡ sets (now (s .entry)) at (bytesOf placeBytes ps) ⌝ }
 {
     let mut i = 0;
@@ -140,16 +139,16 @@ fn put_places(s: &mut [u8], at: usize, ps: [Place; 7])
 
 // Writes what is held for each of the seven hubs.
 fn put_hubs(s: &mut [u8], at: usize, vs: [bool; 7], ps: [Place; 7])
-    requires { ⌜ at + 35 ≤ length (now s) ⌝ }
+    requires { ⌜ at + hubs-most * 5 ≤ length (now s) ⌝ }
     ensures { λ _. ⌜ now (s .exit) ≡ sets (now (s .entry)) at (flags vs ++ bytesOf placeBytes ps) ⌝ }
 {
     put_voters(s, at, vs);
     put_places(s, at + 7, ps);
 }
 
-// Writes a head over the first 56 bytes; the others stay.
+// Writes a head over the first bytes; the others stay.
 pub fn write_head(s: &mut [u8], h: Head)
-    requires { ⌜ 56 ≤ length (now s) ⌝ }
+    requires { ⌜ head-size ≤ length (now s) ⌝ }
     ensures { λ _. ⌜ now (s .exit) ≡ sets (now (s .entry)) 0 (bytesOfHead h) ⌝ }
 {
     let vs = h.voters;
@@ -161,26 +160,9 @@ pub fn write_head(s: &mut [u8], h: Head)
 
 // ---- what stands behind it
 
-// Where row i of the table stands.
-pub fn row_at(i: u32) -> usize
-    ensures { λ r. ⌜ r ≡ head-size + i * row-size ⌝ }
+// Where the row after a place of the log stands: that of place 1 stands after place 0.
+pub fn row_after(p: Place) -> usize
+    ensures { λ r. ⌜ r ≡ head-size + p .0 * row-size ⌝ }
 {
-    state::HEAD + (i as usize) * kinds::ROW
-}
-
-// ---- voters
-
-// How many voters there are.
-pub fn count_voters(vs: [bool; 7]) -> u32
-    ensures { λ r. ⌜ r ≡ count (λ v. v) vs ⌝ }
-{
-    let mut n: u32 = 0;
-    let mut i = 0;
-    while i < 7 {
-        if vs[i] {
-            n += 1;
-        }
-        i += 1;
-    }
-    n
+    state::HEAD + (p.number() as usize) * kinds::ROW
 }

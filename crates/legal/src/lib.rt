@@ -4,8 +4,10 @@ ghost use mathlib.Core.Path.{_≡_};
 ghost use mathlib.Core.Bool.{true, false, _&&_};
 ghost use Prim.Native.Nat.{_+_, _-_, _*_, _≤_};
 ghost use lib.ListN.{length, drop};
+ghost use Rattle.kinds.specs.Sizes.{row-size};
 ghost use Rattle.state.specs.Image.{readState, readKept};
 ghost use Rattle.state.specs.Check.{isSome, who, legalLog, legalGathered, zeros, checkedTable, Room};
+use kinds::Hub;
 use kinds::Place;
 use kinds::Term;
 
@@ -13,7 +15,7 @@ use kinds::Term;
 
 // n log rows from a place on: entry terms at least 1, never falling, at most the ballot; commands legal.
 fn is_log(s: &[u8], from: usize, n: Place, ballot: Term) -> bool
-    requires { ⌜ from + n .0 * 20 ≤ length (now s) ⌝ }
+    requires { ⌜ from + n .0 * row-size ≤ length (now s) ⌝ }
     ensures { λ r. ⌜ r ≡ legalLog 1 (ballot .0) (n .0) (drop from (now (s .entry))) ⌝ }
 {
     rows::are_legal(s, from, n.number(), true, 1, ballot.number())
@@ -28,7 +30,7 @@ fn one_below(n: u32) -> u32
 
 // n gathered rows from a place on: ballots at least 1 and below the term; commands legal.
 fn is_gathered(s: &[u8], from: usize, n: Place, term: Term) -> bool
-    requires { ⌜ from + n .0 * 20 ≤ length (now s) ⌝ }
+    requires { ⌜ from + n .0 * row-size ≤ length (now s) ⌝ }
     ensures { λ r. ⌜ r ≡ legalGathered (term .0) (n .0) (drop from (now (s .entry))) ⌝ }
 {
     rows::are_legal(s, from, n.number(), false, 1, one_below(term.number()))
@@ -72,7 +74,7 @@ fn is_legal_table(s: &[u8]) -> bool
     let h = head::read_head(s);
     let n = h.length;
     let g = h.gathered;
-    let second = state::HEAD + (n.number() as usize) * kinds::ROW;
+    let second = head::row_after(n);
     let rest = second + (g.number() as usize) * kinds::ROW;
     if !is_log(s, state::HEAD, n, h.ballot) {
         return false;
@@ -86,8 +88,8 @@ fn is_legal_table(s: &[u8]) -> bool
 // ---- the whole
 
 // Whether the bytes are the image of a legal state of hub own in a group of this size.
-pub fn is_legal(size: u32, own: u32, s: &[u8]) -> bool
-    ensures { λ r. ⌜ r ≡ isSome (readState (who size own) (now (s .entry))) ⌝ }
+pub fn is_legal(size: u32, own: Hub, s: &[u8]) -> bool
+    ensures { λ r. ⌜ r ≡ isSome (readState (who size (own .0)) (now (s .entry))) ⌝ }
 {
     if s.len() != state::state_bytes() {
         return false;

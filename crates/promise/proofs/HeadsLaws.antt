@@ -1,16 +1,15 @@
 -- Laws of the heads that events make: each is the head of the state that the event's rule gives. Assumes nothing.
-use Prim.Native.Nat.{ℕ, zero, suc, _+_, _-_}
+use Prim.Native.Nat.{ℕ, zero, suc}
 use mathlib.Core.Path.{_≡_, refl}
 use mathlib.Core.List.{List, [], _∷_, map}
-use lib.ListN.{length, set, length-append}
+use lib.ListN.{set}
 use Rattle.kinds.specs.Of.{place, term}
 use Rattle.kinds.specs.Sizes.{Who}
-use Rattle.command.specs.Command.{Command}
-use Rattle.state.specs.State.{Kept, Lost, follower, leader}
+use Rattle.state.specs.State.{Kept, Lost, follower}
 use Rattle.state.specs.Image.{roleOf, votersOf, gatheredOf, confirmedOf}
 use Rattle.state.specs.Head.{headOf}
-use Rattle.rules.specs.Events.{withTerm, started, withEntry, leads}
-use Rattle.promise.specs.Heads.{following, standing, grown}
+use Rattle.rules.specs.Events.{withTerm, started}
+use Rattle.promise.specs.Heads.{following, standing}
 
 -- Places of numbers of which one is another.
 pub places-set : (ns : List ℕ) (i n : ℕ) → set (map place ns) i (place n) ≡ map place (set ns i n)
@@ -27,12 +26,3 @@ following-head k l t = refl
 pub standing-head : (w : Who) (k : Kept) (l : Lost) → (let t = started w (record { kept = k; lost = l }) in standing (headOf k l) (w .own) ≡ headOf (t .kept) (t .lost))
 unfolding standing headOf started withTerm roleOf votersOf gatheredOf confirmedOf
 standing-head w k l = refl
-
--- A leader's head with one entry more.
-pub grown-head :
-    (w : Who) (k : Kept) (c : Command) (confirmed : List ℕ)
-    → (let t = leads w (withEntry k c) confirmed in grown (headOf k (leader confirmed)) (w .own) ≡ headOf (t .kept) (t .lost))
-unfolding grown headOf leads withEntry roleOf votersOf gatheredOf confirmedOf
-grown-head w k c confirmed =
-    let n = length (k .log) in
-    rw (length-append (k .log) (record { term = k .term; command = c } ∷ []), places-set confirmed (w .own - 1) (n + 1))

@@ -1,42 +1,34 @@
--- Laws of clearing the lost parts: a restart, a start, a higher term, from the bytes of one state to those of the next. Assumes nothing.
-use Prim.Native.Nat.{ℕ, _+_, _-_, _*_, _≤_, _<_}
+-- Laws of a state whose lost parts are to be cleared: what its kept parts say, that all its rows have a place, and which hub may start or follow. Assumes nothing.
+use Prim.Native.Nat.{ℕ, _+_, _≤_}
 use native.Mathlib.Omega.{arith}
-use mathlib.Core.Path.{_≡_, refl, sym, _∙_, ap}
+use mathlib.Core.Path.{_≡_, refl, sym, _∙_}
 use mathlib.Core.Bool.{true, false}
-use mathlib.Core.List.{List, [], map, append-nil}
+use mathlib.Core.List.{List}
 use mathlib.Core.Option.{some}
 use borrow.Author.Tests.{ne-eqb}
-use lib.ListN.{length, take, drop, replicate, length-map}
-use lib.Seq.{sets, take-at}
-use Rattle.kinds.specs.Of.{term}
-use Rattle.kinds.specs.Sizes.{Who, term-most, limit, row-size}
+use lib.ListN.{length, drop}
+use Rattle.kinds.specs.Role.{as-leader}
+use Rattle.kinds.specs.Sizes.{Who, term-most, limit}
 use Rattle.command.specs.Words.{wordAt}
 use Rattle.command.proofs.WordsLaws.{Bytes}
-use Rattle.state.specs.declared.Head.{Head}
 use Rattle.state.specs.State.{Kept, Lost, follower, candidate, leader, State}
 use Rattle.state.specs.Legal.{legalState}
-use Rattle.rows.specs.Rows.{entryOf, Row, entryRow}
-use Rattle.state.specs.Image.{head-size, state-size, gatheredOf, votersOf, confirmedOf, roleOf, image, keptIn, stateIn, readKept}
-use Rattle.state.specs.Head.{headIn, bytesOfHead, headOf}
-use Rattle.state.specs.Table.{pairRow, rowsOf}
+use Rattle.rows.specs.Rows.{entryOf}
+use Rattle.state.specs.Image.{head-size, state-size, roleOf, keptIn, stateIn, readKept}
+use Rattle.state.specs.Head.{headIn}
 use Rattle.state.specs.Check.{isSome}
 use Rattle.state.proofs.LegalLaws.{legalKept-is, rowsOf-length, IsKept, legalState-kept, follower-legal}
 use Rattle.rows.proofs.RowLaws.{rowsIn-length}
 use Rattle.state.proofs.ImageLaws.{readKept-sound}
-use Rattle.state.proofs.ImageWrites.{kept-cleared}
-use Rattle.rules.specs.Outcome.{Next, goes}
-use Rattle.rules.specs.Events.{isLeader, started, asks, start, withTerm, restart}
+use Rattle.rules.specs.Outcome.{goes}
+use Rattle.rules.specs.Events.{isLeader, started, asks, start, withTerm}
 use Rattle.rules.specs.Receive.{raised}
-use Rattle.rules.specs.Happens.{to-start, happens, legalAt}
 use Rattle.rules.proofs.EventsLaws.{withTerm-kept}
-use Rattle.rules.proofs.Theorems.{next-is-legal}
 use Rattle.promise.specs.Promise.{Ready}
-use Rattle.promise.specs.Heads.{following, standing}
-use Rattle.promise.proofs.PromiseLaws.{ready-legal, ready-held, ready-head, ready-role, ready-term, ready-length, ready-gathered, ready-clear}
+use Rattle.promise.proofs.PromiseLaws.{ready-legal, ready-held, ready-role, ready-term, ready-length, ready-gathered}
 use Rattle.promise.proofs.GateLaws.{readKept-some}
-use Rattle.promise.proofs.HeadsLaws.{following-head, standing-head}
 
--- ---- restart
+-- ---- kept parts that are legal
 
 module _ (l : List ℕ) (o : Bytes l) (h : isSome (readKept l) ≡ true) where
   read-is : readKept l ≡ some (keptIn l)
@@ -55,35 +47,9 @@ module _ (l : List ℕ) (o : Bytes l) (h : isSome (readKept l) ≡ true) where
   pub kept-within : headIn l .length .0 ≤ limit
   kept-within = omega (arith, kept-length, legalKept-is (keptIn l) (readKept-sound l (keptIn l) read-is .1) .within)
 
-  -- The log's rows lie within the bytes.
-  pub kept-inside : head-size + headIn l .length .0 * row-size ≤ length l
-  unfolding state-size
-  kept-inside = omega (arith, kept-size, kept-within)
-
-  head-is : following (headIn l) (headIn l .term) ≡ headOf (keptIn l) follower
-  unfolding following headIn headOf keptIn votersOf confirmedOf gatheredOf roleOf
-  head-is = rw (rowsIn-length entryOf (wordAt 12 4 l) (drop head-size l))
-
-  -- Zeros behind the log, and a follower's head.
-  pub restart-written :
-      sets (sets l (head-size + headIn l .length .0 * row-size) (replicate (length l - (head-size + headIn l .length .0 * row-size)) 0)) 0 (bytesOfHead (following (headIn l) (headIn l .term)))
-      ≡ image (restart (keptIn l) .state)
-  unfolding restart state-size
-  restart-written =
-      let n = headIn l .length .0 in
-      let rest : length l - (head-size + n * row-size) ≡ (limit - n) * row-size = omega (arith, kept-size, kept-within) in
-      rw (head-is, rest, kept-length) (kept-cleared l o (keptIn l) read-is)
-
-  -- The same, write by write.
-  pub restart-steps :
-      {h f : Head} {n from : ℕ} {l1 l2 : List ℕ} → h ≡ headIn l → n ≡ h .length .0 → from ≡ head-size + n * row-size
-      → l1 ≡ sets l from (replicate (length l - from) 0) → f ≡ following h (h .term) → l2 ≡ sets l1 0 (bytesOfHead f)
-      → l2 ≡ image (restart (keptIn l) .state)
-  restart-steps eh en efrom e1 ef e2 = rw (e2, e1, ef, efrom, en, eh) restart-written
-
 -- ---- a start that takes effect
 
-no-leader : (k : Kept) (l : Lost) → (roleOf l ≡ 2 → ⊥) → isLeader (record { kept = k; lost = l }) ≡ false
+no-leader : (k : Kept) (l : Lost) → (roleOf l ≡ as-leader → ⊥) → isLeader (record { kept = k; lost = l }) ≡ false
 unfolding isLeader roleOf
 no-leader k follower h = refl
 no-leader k (candidate voters gathered) h = refl
@@ -101,49 +67,12 @@ module _ (w : Who) (l : List ℕ) (r : Ready w l) where
   pub rows-within : headIn l .length .0 + headIn l .gathered .0 ≤ limit
   rows-within = omega (arith, ready-length w l r, ready-gathered w l r, rowsOf-length (stateIn l), ready-held w l r .room)
 
-  -- The gathered rows are cleared, then the head is written: any state with the same log and nothing gathered.
-  pub lost-cleared :
-      (t : State) → legalState w t ≡ true → t .kept .log ≡ stateIn l .kept .log → gatheredOf (t .lost) ≡ []
-      → sets (sets l (head-size + headIn l .length .0 * row-size) (replicate (headIn l .gathered .0 * row-size) 0)) 0 (bytesOfHead (headOf (t .kept) (t .lost)))
-      ≡ image t
-  unfolding rowsOf
-  lost-cleared t g log none-left =
-      let s = stateIn l in
-      let entries : List Row = map entryRow (s .kept .log) in
-      let pairs : List Row = map pairRow (gatheredOf (s .lost)) in
-      let long = rowsOf-length s in
-      let same : rowsOf t ≡ take (length (s .kept .log)) (rowsOf s) =
-      rw (log, none-left, append-nil entries) (sym (take-at entries pairs (length (s .kept .log)) (length-map (s .kept .log) entryRow))) in
-      rw (ready-length w l r, ready-gathered w l r)
-      (ready-clear w l r t g (length (s .kept .log)) (length (gatheredOf (s .lost))) (omega arith) (omega arith) (omega (arith, ready-held w l r .room)) same)
-
-  -- ---- start and a higher term
-
   kept-is : IsKept (stateIn l .kept)
   kept-is = legalState-kept w (stateIn l) (ready-legal w l r)
 
   -- No leader's head: no leader.
-  pub not-leading : (headIn l .role ≡ 2 → ⊥) → isLeader (stateIn l) ≡ false
+  pub not-leading : (headIn l .role ≡ as-leader → ⊥) → isLeader (stateIn l) ≡ false
   not-leading h = no-leader (stateIn l .kept) (stateIn l .lost) (λ e. h (ready-role w l r ∙ e))
-
-  module _ (role : headIn l .role ≡ 2 → ⊥) (low : headIn l .term .0 < term-most) where
-    started-legal : legalState w (started w (stateIn l)) ≡ true
-    unfolding happens legalAt
-    started-legal =
-        let s = stateIn l in
-        ap (λ (n : Next). legalState w (n .state)) (sym (start-goes w s (not-leading role) (λ e. omega (arith, ready-term w l r))))
-        ∙ next-is-legal w s to-start (record { size = r .size; own = r .own; legal = ready-legal w l r })
-
-    -- A start, write by write.
-    pub start-steps :
-        {h f : Head} {l1 l2 : List ℕ} → h ≡ headIn l
-        → l1 ≡ sets l (head-size + h .length .0 * row-size) (replicate (h .gathered .0 * row-size) 0) → f ≡ standing h (w .own) → l2 ≡ sets l1 0 (bytesOfHead f)
-        → l2 ≡ image (started w (stateIn l))
-    unfolding started withTerm gatheredOf
-    start-steps eh e1 ef e2 =
-        let s = stateIn l in
-        let head = ap (λ (x : Head). standing x (w .own)) (eh ∙ ready-head w l r) ∙ standing-head w (s .kept) (s .lost) in
-        rw (e2, e1, ef ∙ head, eh) (lost-cleared (started w s) started-legal refl refl)
 
   module _ (t : ℕ) (up : headIn l .term .0 ≤ t) (last : t ≤ term-most) where
     -- The follower of this term or of a higher one is legal.
@@ -152,14 +81,3 @@ module _ (w : Who) (l : List ℕ) (r : Ready w l) where
     raised-legal =
         let k = stateIn l .kept in
         follower-legal w (withTerm k t) (withTerm-kept k t kept-is (omega (arith, ready-term w l r)) last)
-
-    -- The same, write by write.
-    pub raise-steps :
-        {h f : Head} {l1 l2 : List ℕ} → h ≡ headIn l
-        → l1 ≡ sets l (head-size + h .length .0 * row-size) (replicate (h .gathered .0 * row-size) 0) → f ≡ following h (term t) → l2 ≡ sets l1 0 (bytesOfHead f)
-        → l2 ≡ image (raised (stateIn l) t)
-    unfolding raised withTerm gatheredOf
-    raise-steps eh e1 ef e2 =
-        let s = stateIn l in
-        let head = ap (λ (x : Head). following x (term t)) (eh ∙ ready-head w l r) ∙ following-head (s .kept) (s .lost) t in
-        rw (e2, e1, ef ∙ head, eh) (lost-cleared (raised s t) raised-legal refl refl)

@@ -4,24 +4,22 @@ use Prim.Native.Nat.{ℕ, _+_, _-_, _*_, _≤_}
 use native.Mathlib.Omega.{arith}
 use mathlib.Core.Path.{_≡_, refl, sym, _∙_, ap}
 use mathlib.Core.Bool.{true, false}
-use mathlib.Core.List.{List, _++_, map}
+use mathlib.Core.List.{List, _++_}
 use mathlib.Core.Option.{none, some, Option}
-use borrow.Author.Tests.{ne-eqb}
 use lib.ListN.{length, take, drop, replicate}
 use lib.Seq.{sets}
-use Rattle.kinds.specs.Of.{place}
 use Rattle.kinds.specs.Sizes.{Who, limit, row-size}
 use Rattle.state.specs.declared.Head.{Head}
 use Rattle.state.specs.State.{State}
 use Rattle.state.specs.Legal.{legalState}
 use Rattle.rows.specs.Rows.{bytesOf, Row, rowBytes}
-use Rattle.state.specs.Image.{head-size, state-size, roleOf, gatheredOf, confirmedOf, image, stateIn}
+use Rattle.state.specs.Image.{head-size, state-size, roleOf, gatheredOf, image, stateIn}
 use Rattle.state.specs.Head.{headIn, bytesOfHead, headOf}
 use Rattle.state.specs.Table.{rowsOf}
 use Rattle.state.proofs.LegalLaws.{Held, legal-held}
 use Rattle.state.proofs.ImageLaws.{image-head, legal-length, readState-image, readState-sound, stateIn-image}
 use Rattle.state.proofs.ImageWrites.{image-headed, image-put, image-clear}
-use Rattle.rules.specs.Outcome.{Next, done, goes, refuses}
+use Rattle.rules.specs.Outcome.{Next, done, goes}
 use Rattle.rules.specs.Step.{Call, Answer, over, written, answer}
 use Rattle.rules.proofs.LegalLaws.{IsWho, isWho}
 use Rattle.promise.specs.Promise.{Answers, Ready, leftBy, Gives, Quiet, isEffect, ruledBy, saidBy, Ruled}
@@ -91,10 +89,6 @@ module _ (w : Who) (l : List ℕ) (r : Ready w l) where
   unfolding headOf
   ready-gathered = ap (λ (h : Head). h .gathered .0) ready-head
 
-  pub ready-confirmed : headIn l .confirmed ≡ map place (confirmedOf (stateIn l .lost))
-  unfolding headOf
-  ready-confirmed = ap (λ (h : Head). h .confirmed) ready-head
-
   -- The hub is one of the group.
   pub ready-who : IsWho w
   ready-who = isWho w (r .size) (r .own)
@@ -126,12 +120,6 @@ module _ (w : Who) (l : List ℕ) (r : Ready w l) where
     ready-clear i k inside behind fits e = rw ready-image at (image-clear (stateIn l) t ready-held (legal-held w t g) i k inside behind fits e)
 
 -- ---- what an event returns and leaves
-
--- A refusal leaves every byte.
-pub refused-quiet : {n : Next} (s : State) (l : List ℕ) (k : ℕ) → n ≡ refuses s k → (k ≡ done → ⊥) → Quiet n l k l
-unfolding leftBy
-refused-quiet s l k e h =
-    rw e (record { returned = refl; silent = refl; state-left = rw (ne-eqb k done h) })
 
 -- An event that takes effect and writes nothing.
 pub done-quiet : {n : Next} (t : State) (l l′ : List ℕ) → n ≡ goes t none → l′ ≡ image t → Quiet n l done l′

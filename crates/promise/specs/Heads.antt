@@ -65,18 +65,18 @@ confirming h from end chosen =
       confirmed = set (h .confirmed) (from - 1) end;
     }
 
--- A leader whose log the gathered entries have joined, n of them: ballot = term, lost parts cleared, own confirmed length = length.
-unfoldable pub leading : Head → ℕ → ℕ → Head
-leading h own n =
+-- A leader whose log the gathered entries have joined: ballot = term, lost parts cleared, own confirmed length = length.
+unfoldable pub leading : Head → ℕ → Head
+leading h own =
     record {
       term = h .term;
       ballot = h .term;
       chosen = h .chosen;
-      length = place (h .length .0 + n);
+      length = place (h .length .0 + h .gathered .0);
       gathered = place 0;
       role = as-leader;
       voters = replicate hubs-most false;
-      confirmed = set (replicate hubs-most (place 0)) (own - 1) (place (h .length .0 + n));
+      confirmed = set (replicate hubs-most (place 0)) (own - 1) (place (h .length .0 + h .gathered .0));
     }
 
 -- A follower that took an append: ballot = term, with this chosen count and this length.

@@ -5,9 +5,10 @@ use mathlib.Core.Path.{_≡_, refl, sym, _∙_, ap}
 use mathlib.Core.Bool.{true, false}
 use mathlib.Core.List.{List, [], _∷_, _++_, map, map-append, append-nil}
 use mathlib.Core.Option.{Option, none, some}
-use borrow.Author.Tests.{le-leb, lt-leb}
-use lib.ListN.{length, take, drop, length-map, drop-of-length-le}
+use borrow.Author.Tests.{le-leb, lt-leb, ne-eqb}
+use lib.ListN.{length, take, drop, length-append, length-map, drop-of-length-le}
 use lib.Seq.{sets, take-all}
+use Rattle.kinds.specs.Role.{as-leader}
 use Rattle.kinds.specs.Sizes.{Who, limit, row-size}
 use Rattle.command.specs.Command.{Command, commandOf}
 use Rattle.command.specs.Proposal.{proposable, readProposal}
@@ -18,7 +19,7 @@ use Rattle.state.specs.declared.Head.{Head}
 use Rattle.state.specs.State.{Kept, Lost, follower, candidate, leader, State}
 use Rattle.state.specs.Legal.{legalState}
 use Rattle.rows.specs.Rows.{bytesOf, Row, rowBytes, entryRow}
-use Rattle.state.specs.Image.{head-size, roleOf, gatheredOf, confirmedOf, image, stateIn}
+use Rattle.state.specs.Image.{head-size, roleOf, votersOf, gatheredOf, confirmedOf, image, stateIn}
 use Rattle.state.specs.Head.{headIn, bytesOfHead, headOf}
 use Rattle.state.specs.Table.{rowsOf}
 use Rattle.rules.specs.Outcome.{Next, done, goes, refuses, wrong-role, bad-command, log-full}
@@ -26,36 +27,42 @@ use Rattle.rules.specs.Events.{leads, withEntry, proposeLeading, propose}
 use Rattle.rules.specs.Happens.{to-propose, happens, legalAt}
 use Rattle.rules.proofs.Theorems.{next-is-legal}
 use Rattle.rows.specs.declared.Words.{Words}
-use Rattle.promise.specs.Promise.{Ready, Quiet}
+use Rattle.promise.specs.Promise.{Ready, Quiet, leftBy}
 use Rattle.promise.specs.Heads.{grown}
 use Rattle.rows.specs.Words.{commandIn, wordsAt, rowWords}
-use Rattle.promise.proofs.PromiseLaws.{ready-legal, ready-head, ready-role, ready-term, ready-length, ready-put, refused-quiet, done-quiet}
+use Rattle.promise.proofs.PromiseLaws.{ready-legal, ready-head, ready-role, ready-term, ready-length, ready-put, done-quiet}
 use Rattle.rows.proofs.WordsLaws.{commandIn-at, row-words}
-use Rattle.promise.proofs.HeadsLaws.{grown-head}
+use Rattle.promise.proofs.HeadsLaws.{places-set}
+
+-- A refusal leaves every byte.
+refused-quiet : {n : Next} (s : State) (l : List ℕ) (k : ℕ) → n ≡ refuses s k → (k ≡ done → ⊥) → Quiet n l k l
+unfolding leftBy
+refused-quiet s l k e h =
+    rw e (record { returned = refl; silent = refl; state-left = rw (ne-eqb k done h) })
 
 -- ---- the bytes proposed
 
 -- A command is what may be proposed.
-pub readProposal-command : (bytes : List ℕ) → isCommand bytes ≡ true → readProposal bytes ≡ some (commandOf bytes)
+readProposal-command : (bytes : List ℕ) → isCommand bytes ≡ true → readProposal bytes ≡ some (commandOf bytes)
 unfolding readProposal isCommand proposable
 readProposal-command bytes h = rw h
 
 -- Other bytes are not.
-pub readProposal-other : (bytes : List ℕ) → isCommand bytes ≡ false → readProposal bytes ≡ none
+readProposal-other : (bytes : List ℕ) → isCommand bytes ≡ false → readProposal bytes ≡ none
 unfolding readProposal isCommand proposable
 readProposal-other bytes h = rw h
 
 -- ---- outcomes
 
 -- No leader.
-pub propose-role : (w : Who) (k : Kept) (l : Lost) (p : Option Command) → (let s : State = record { kept = k; lost = l } in (roleOf l ≡ 2 → ⊥) → propose w s p ≡ refuses s wrong-role)
+propose-role : (w : Who) (k : Kept) (l : Lost) (p : Option Command) → (let s : State = record { kept = k; lost = l } in (roleOf l ≡ as-leader → ⊥) → propose w s p ≡ refuses s wrong-role)
 unfolding propose roleOf
 propose-role w k follower p h = refl
 propose-role w k (candidate voters gathered) p h = refl
 propose-role w k (leader confirmed) p h = absurd (h refl)
 
 -- A leader.
-pub propose-leads : (w : Who) (k : Kept) (l : Lost) (p : Option Command) → (let s : State = record { kept = k; lost = l } in roleOf l ≡ 2 → propose w s p ≡ proposeLeading w s (confirmedOf l) p)
+propose-leads : (w : Who) (k : Kept) (l : Lost) (p : Option Command) → (let s : State = record { kept = k; lost = l } in roleOf l ≡ as-leader → propose w s p ≡ proposeLeading w s (confirmedOf l) p)
 unfolding propose roleOf confirmedOf
 propose-leads w k follower p h = absurd (omega arith)
 propose-leads w k (candidate voters gathered) p h = absurd (omega arith)
@@ -63,21 +70,30 @@ propose-leads w k (leader confirmed) p h = refl
 
 module _ (w : Who) (s : State) (confirmed : List ℕ) where
   -- No command that may be proposed.
-  pub leading-bad : proposeLeading w s confirmed none ≡ refuses s bad-command
+  leading-bad : proposeLeading w s confirmed none ≡ refuses s bad-command
   unfolding proposeLeading
   leading-bad = refl
 
   -- A full log.
-  pub leading-full : (c : Command) → limit ≤ length (s .kept .log) → proposeLeading w s confirmed (some c) ≡ refuses s log-full
+  leading-full : (c : Command) → limit ≤ length (s .kept .log) → proposeLeading w s confirmed (some c) ≡ refuses s log-full
   unfolding proposeLeading
   leading-full c h = rw (le-leb limit (length (s .kept .log)) h)
 
   -- Room for one more.
-  pub leading-done : (c : Command) → length (s .kept .log) < limit → proposeLeading w s confirmed (some c) ≡ goes (leads w (withEntry (s .kept) c) confirmed) none
+  leading-done : (c : Command) → length (s .kept .log) < limit → proposeLeading w s confirmed (some c) ≡ goes (leads w (withEntry (s .kept) c) confirmed) none
   unfolding proposeLeading
   leading-done c h = rw (lt-leb limit (length (s .kept .log)) h)
 
 -- ---- the bytes
+
+-- A leader's head with one entry more.
+grown-head :
+    (w : Who) (k : Kept) (c : Command) (confirmed : List ℕ)
+    → (let t = leads w (withEntry k c) confirmed in grown (headOf k (leader confirmed)) (w .own) ≡ headOf (t .kept) (t .lost))
+unfolding grown headOf leads withEntry roleOf votersOf gatheredOf confirmedOf
+grown-head w k c confirmed =
+    let n = length (k .log) in
+    rw (length-append (k .log) (record { term = k .term; command = c } ∷ []), places-set confirmed (w .own - 1) (n + 1))
 
 -- A leader's rows with one entry more, as they are written: behind the others.
 grown-rows :
@@ -95,7 +111,7 @@ grown-rows w k c (leader confirmed) h =
     rw (append-nil rows, append-nil (map entryRow (k .log ++ (record { term = k .term; command = c } ∷ []))))
     (n, rw (take-all (length (k .log)) rows (omega arith), drop-of-length-le rows {i = length (k .log) + 1} (omega arith)) (map-append entryRow (k .log) (record { term = k .term; command = c } ∷ [])))
 
-grown-is : (w : Who) (k : Kept) (c : Command) (l : Lost) → roleOf l ≡ 2 → (let t = leads w (withEntry k c) (confirmedOf l) in grown (headOf k l) (w .own) ≡ headOf (t .kept) (t .lost))
+grown-is : (w : Who) (k : Kept) (c : Command) (l : Lost) → roleOf l ≡ as-leader → (let t = leads w (withEntry k c) (confirmedOf l) in grown (headOf k l) (w .own) ≡ headOf (t .kept) (t .lost))
 unfolding roleOf confirmedOf
 grown-is w k c follower h = absurd (omega arith)
 grown-is w k c (candidate voters gathered) h = absurd (omega arith)
@@ -111,21 +127,21 @@ module _ (w : Who) (l : List ℕ) (r : Ready w l) where
     long : h .length .0 ≡ length (stateIn l .kept .log)
     long = ap (λ (x : Head). x .length .0) e ∙ ready-length w l r
 
-    leading : h .role ≡ 2 → propose w (stateIn l) (readProposal bytes) ≡ proposeLeading w (stateIn l) (confirmedOf (stateIn l .lost)) (readProposal bytes)
+    leading : h .role ≡ as-leader → propose w (stateIn l) (readProposal bytes) ≡ proposeLeading w (stateIn l) (confirmedOf (stateIn l .lost)) (readProposal bytes)
     leading role = propose-leads w (stateIn l .kept) (stateIn l .lost) (readProposal bytes) (sym here ∙ role)
 
     -- Outcome 8.
-    pub proposed-wrong-role : (h .role ≡ 2 → ⊥) → Quiet (propose w (stateIn l) (readProposal bytes)) l wrong-role l
+    pub proposed-wrong-role : (h .role ≡ as-leader → ⊥) → Quiet (propose w (stateIn l) (readProposal bytes)) l wrong-role l
     proposed-wrong-role role =
         refused-quiet (stateIn l) l wrong-role (propose-role w (stateIn l .kept) (stateIn l .lost) (readProposal bytes) (λ f. role (here ∙ f))) (λ z. omega arith)
 
     -- Outcome 10.
-    pub proposed-bad : h .role ≡ 2 → isCommand bytes ≡ false → Quiet (propose w (stateIn l) (readProposal bytes)) l bad-command l
+    pub proposed-bad : h .role ≡ as-leader → isCommand bytes ≡ false → Quiet (propose w (stateIn l) (readProposal bytes)) l bad-command l
     proposed-bad role bad =
         refused-quiet (stateIn l) l bad-command (leading role ∙ rw (readProposal-other bytes bad) (leading-bad w (stateIn l) (confirmedOf (stateIn l .lost)))) (λ z. omega arith)
 
     -- Outcome 11.
-    pub proposed-full : h .role ≡ 2 → isCommand bytes ≡ true → limit ≤ h .length .0 → Quiet (propose w (stateIn l) (readProposal bytes)) l log-full l
+    pub proposed-full : h .role ≡ as-leader → isCommand bytes ≡ true → limit ≤ h .length .0 → Quiet (propose w (stateIn l) (readProposal bytes)) l log-full l
     proposed-full role legal full =
         refused-quiet (stateIn l) l log-full
         (leading role ∙ rw (readProposal-command bytes legal) (leading-full w (stateIn l) (confirmedOf (stateIn l .lost)) (commandOf bytes) (omega (arith, long))))
@@ -133,7 +149,7 @@ module _ (w : Who) (l : List ℕ) (r : Ready w l) where
 
     -- Outcome 0.
     pub proposed-done :
-        h .role ≡ 2 → isCommand bytes ≡ true → h .length .0 < limit → {l′ : List ℕ} → l′ ≡ image (propose w (stateIn l) (readProposal bytes) .state)
+        h .role ≡ as-leader → isCommand bytes ≡ true → h .length .0 < limit → {l′ : List ℕ} → l′ ≡ image (propose w (stateIn l) (readProposal bytes) .state)
         → Quiet (propose w (stateIn l) (readProposal bytes)) l done l′
     proposed-done role legal room left =
         let s = stateIn l in
@@ -142,9 +158,9 @@ module _ (w : Who) (l : List ℕ) (r : Ready w l) where
         leading role ∙ rw (readProposal-command bytes legal) (leading-done w s (confirmedOf (s .lost)) (commandOf bytes) (omega (arith, long))) in
         done-quiet t l _ p (left ∙ ap (λ (n : Next). image (n .state)) p)
 
-  module _ (bytes : List ℕ) (o : Bytes bytes) (legal : isCommand bytes ≡ true) (role : headIn l .role ≡ 2) (room : headIn l .length .0 < limit) where
+  module _ (bytes : List ℕ) (o : Bytes bytes) (legal : isCommand bytes ≡ true) (role : headIn l .role ≡ as-leader) (room : headIn l .length .0 < limit) where
     -- What is proposed there.
-    pub proposed-is : propose w (stateIn l) (readProposal bytes) ≡ goes (leads w (withEntry (stateIn l .kept) (commandOf bytes)) (confirmedOf (stateIn l .lost))) none
+    proposed-is : propose w (stateIn l) (readProposal bytes) ≡ goes (leads w (withEntry (stateIn l .kept) (commandOf bytes)) (confirmedOf (stateIn l .lost))) none
     proposed-is =
         let s = stateIn l in
         ap (propose w s) (readProposal-command bytes legal)
@@ -161,7 +177,7 @@ module _ (w : Who) (l : List ℕ) (r : Ready w l) where
         sym (row-words (headIn l .term .0) (wordsAt 0 bytes) (omega arith)) ∙ rw (c, ready-term w l r) (sym (append-nil _))
 
     -- A row behind the log, and the head of a leader with one entry more.
-    pub propose-written :
+    propose-written :
         sets (sets l (head-size + headIn l .length .0 * row-size) (rowWords (headIn l .term .0) (wordsAt 0 bytes))) 0 (bytesOfHead (grown (headIn l) (w .own)))
         ≡ image (propose w (stateIn l) (readProposal bytes) .state)
     unfolding happens legalAt
@@ -180,7 +196,7 @@ module _ (w : Who) (l : List ℕ) (r : Ready w l) where
 
     -- The same, write by write.
     pub propose-steps :
-        {h f : Head} {n from t : ℕ} {c : Words} {l1 l2 : List ℕ} → h ≡ headIn l → n ≡ h .length .0 → from ≡ head-size + n * row-size → t ≡ h .term .0
-        → c ≡ wordsAt 0 bytes → l1 ≡ sets l from (rowWords t c) → f ≡ grown h (w .own) → l2 ≡ sets l1 0 (bytesOfHead f)
+        {h f : Head} {from : ℕ} {c : Words} {l1 l2 : List ℕ} → h ≡ headIn l → from ≡ head-size + h .length .0 * row-size
+        → c ≡ wordsAt 0 bytes → l1 ≡ sets l from (rowWords (h .term .0) c) → f ≡ grown h (w .own) → l2 ≡ sets l1 0 (bytesOfHead f)
         → l2 ≡ image (propose w (stateIn l) (readProposal bytes) .state)
-    propose-steps eh en efrom et ec e1 ef e2 = rw (e2, e1, ef, efrom, en, et, ec, eh) propose-written
+    propose-steps eh efrom ec e1 ef e2 = rw (e2, e1, ef, efrom, ec, eh) propose-written

@@ -2,6 +2,7 @@
 ghost use mathlib.Core.Path.{_≡_};
 ghost use Prim.Native.Nat.{_≤_, _<_};
 ghost use lib.ListN.{length};
+ghost use Rattle.kinds.specs.Sizes.{hubs-most, limit};
 ghost use Rattle.command.specs.Proposal.{readProposal};
 ghost use Rattle.state.specs.Image.{image, stateIn};
 ghost use Rattle.rules.specs.Events.{propose};
@@ -14,14 +15,14 @@ use state::Head;
 
 // A leader's log has one entry more; own confirmed length follows.
 fn grow(h: Head, own: Hub) -> Head
-    requires { ⌜ (1 ≤ own .0) × (own .0 ≤ 7) × (h .length .0 < 4294967295) ⌝ }
+    requires { ⌜ (1 ≤ own .0) × (own .0 ≤ hubs-most) × (h .length .0 < limit) ⌝ }
     ensures { λ r. ⌜ r ≡ grown h (own .0) ⌝ }
 {
-    let n = h.length.number() + 1;
-    let i = (own.number() - 1) as usize;
+    let long = Place::of(h.length.number() + 1);
+    let i = state::index_of(own);
     let mut next = h;
-    next.length = Place::of(n);
-    next.confirmed[i] = Place::of(n);
+    next.length = long;
+    next.confirmed[i] = long;
     next
 }
 
@@ -32,8 +33,8 @@ fn add_entry(g: Caller, h: Head, state: &mut [u8], command: &[u8])
 {
     rows::put_row(
         state,
-        head::row_at(h.length.number()),
-        h.term.number(),
+        head::row_after(h.length),
+        h.term,
         rows::words_at(command, 0),
     );
     head::write_head(state, grow(h, g.own));

@@ -2,10 +2,10 @@
 use Prim.Native.Nat.{ℕ, _+_, _*_, _≤_, max}
 use native.Mathlib.Omega.{arith}
 use mathlib.Core.Path.{_≡_, sym, _∙_, ap}
-use mathlib.Core.Bool.{Bool, true, false, _&&_, _||_}
+use mathlib.Core.Bool.{Bool, true, false, not, _&&_, _||_}
 use mathlib.Core.List.{List, _++_, map}
 use borrow.Author.Tests.{eqb-true, leb-true, leb-false}
-use lib.Dec.{leb, eqb}
+use lib.Dec.{leb, ltb, eqb}
 use lib.ListN.{length, take, drop, length-append, length-take, length-map}
 use lib.Seq.{sets}
 use Rattle.kinds.specs.declared.Place.{Place}
@@ -29,7 +29,7 @@ use Rattle.message.proofs.LegalLaws.{append-is}
 use Rattle.promise.specs.Promise.{Ready}
 use Rattle.promise.specs.Heads.{taking}
 use Rattle.promise.proofs.PromiseLaws.{ready-image, ready-legal, ready-size, ready-head, ready-who, ready-headed, ready-put}
-use Rattle.promise.proofs.AppendLaws.{tested-length, tested-ballot, tested-term}
+use Rattle.promise.proofs.AppendLaws.{not-below, tested-length, tested-ballot, tested-term}
 use Rattle.replace.proofs.TakingLaws.{taking-head, stays-rows, replaced-rows}
 use Rattle.replace.specs.Taken.{takenBy, Heard}
 use Rattle.replace.proofs.TakenLaws.{takenBy-legal}
@@ -99,10 +99,10 @@ module _ {w : Who} {h : Head} {l : List ℕ} {prev prevterm chosen count : ℕ} 
 
   -- and whether the log stays.
   pub stays-test :
-      {b : Bool} {p e n : ℕ} {end : Place} → p ≡ prev → end ≡ place (p + count) → b ≡ eqb (h .ballot .0) (h .term .0) → e ≡ end .0 → n ≡ h .length .0
-      → (b && leb e n) ≡ (eqb (k .ballot) (k .term) && leb (prev + length es) (length (k .log)))
-  stays-test ep eend eb ee en =
-      rw (eb, ee, en, eend, ep, tested-ballot w h l (t .tested), tested-term w h l (t .tested), tested-length w h l (t .tested), counted)
+      {b d : Bool} {p : ℕ} {end : Place} → p ≡ prev → end ≡ place (p + count) → b ≡ eqb (h .ballot .0) (h .term .0) → d ≡ ltb (h .length .0) (end .0)
+      → (b && not d) ≡ (eqb (k .ballot) (k .term) && leb (prev + length es) (length (k .log)))
+  stays-test ep eend eb ed =
+      rw (eb, ed, eend, ep, not-below, tested-ballot w h l (t .tested), tested-term w h l (t .tested), tested-length w h l (t .tested), counted)
 
   state-is : stateIn l ≡ before
   state-is = λ i. record { kept = k; lost = t .follows i }
@@ -150,12 +150,12 @@ module _ {w : Who} {h : Head} {l : List ℕ} {prev prevterm chosen count : ℕ} 
 
     -- Entries after prev are replaced: their rows are written, then the head.
     pub taken-put :
-        {most end : Place} {f : Head} {at p q : ℕ} {l1 l′ : List ℕ} → (eqb (k .ballot) (k .term) && leb (prev + length es) (length (k .log))) ≡ false
-        → most ≡ place (max (h .chosen .0) chosen) → p ≡ prev → end ≡ place (p + count) → q ≡ prev → at ≡ head-size + q * row-size
+        {most end : Place} {f : Head} {at p : ℕ} {l1 l′ : List ℕ} → (eqb (k .ballot) (k .term) && leb (prev + length es) (length (k .log))) ≡ false
+        → most ≡ place (max (h .chosen .0) chosen) → p ≡ prev → end ≡ place (p + count) → at ≡ head-size + prev * row-size
         → l1 ≡ sets l at (bytesOf logRow es) → f ≡ taking h most end → l′ ≡ sets l1 0 (bytesOfHead f)
         → l′ ≡ image (takenBy (stateIn l) prev prevterm chosen es)
     unfolding replaced
-    taken-put test em ep eend eq eat e1 ef el =
+    taken-put test em ep eend eat e1 ef el =
         let new : List Row = map entryRow es in
         let inside = fits-inside k prev prevterm (prev + length es) fit in
         let size : prev + count ≡ length (replaced k prev es) =
@@ -164,5 +164,5 @@ module _ {w : Who} {h : Head} {l : List ℕ} {prev prevterm chosen count : ℕ} 
         let rows : rowsOf after ≡ take prev (rowsOf (stateIn l)) ++ (new ++ drop (prev + length new) (rowsOf (stateIn l))) =
         rw state-is (replaced-rows k prev chosen es test (fits-to-end k prev prevterm (prev + length es) fit test)) in
         let head = taken-head em (eend ∙ ap (λ (n : ℕ). place (n + count)) ep ∙ ap place size) ef in
-        rw (taken-is, el, head, e1, eat, eq, ← bytesOf-map rowBytes entryRow es)
+        rw (taken-is, el, head, e1, eat, ← bytesOf-map rowBytes entryRow es)
         (ready-put w l ready after after-legal prev new (omega (arith, rowsOf-length (stateIn l))) (omega (arith, end-within, counted)) rows)

@@ -44,7 +44,7 @@ fn put_entries(state: &mut [u8], row: usize, count: u32, lines: &[u8])
         rows::put_row(
             state,
             to,
-            term.number(),
+            term,
             Words {
                 what,
                 duration,
@@ -90,11 +90,11 @@ fn take_in(
         return false;
     }
     let most = turns::greater(h.chosen, chosen);
-    if h.ballot.equals(h.term) & (end.number() <= h.length.number()) {
+    if h.ballot.equals(h.term) & !h.length.below(end) {
         head::write_head(state, turns::take_head(h, most, h.length));
         return true;
     }
-    put_entries(state, head::row_at(prev.number()), count, lines);
+    put_entries(state, head::row_after(prev), count, lines);
     head::write_head(state, turns::take_head(h, most, end));
     true
 }

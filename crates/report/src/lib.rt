@@ -1,6 +1,7 @@
 // What a hub reports: the commands at places 1 to chosen of its log, and no others. The kept parts of its state alone are looked at.
 ghost use mathlib.Core.Path.{_≡_};
 ghost use Rattle.rules.specs.Report.{Reports, reportOf, chosenOf};
+use kinds::Place;
 
 // The bytes of a command.
 const COMMAND: usize = 16;
@@ -23,7 +24,8 @@ pub fn reported_at(state: &[u8], place: u32, out: &mut [u8]) -> u32
     if h.chosen.number() < place {
         return kinds::OUT_OF_RANGE;
     }
-    rows::put_words(out, 0, rows::words_at(state, head::row_at(place - 1) + 4));
+    let row = head::row_after(Place::of(place - 1));
+    rows::put_words(out, 0, rows::words_at(state, row + 4));
     kinds::DONE
 }
 

@@ -4,6 +4,7 @@ use mathlib.Core.Path.{_≡_, refl}
 use mathlib.Core.Bool.{Bool, true, false, _&&_}
 use mathlib.Core.List.{List}
 use Rattle.kinds.specs.Hubs.{all}
+use Rattle.kinds.specs.Role.{as-follower, as-candidate, as-leader}
 use Rattle.kinds.specs.Sizes.{Who, hubs-most}
 use Rattle.command.specs.Words.{part}
 use Rattle.rows.proofs.BoolLaws.{and-fails}
@@ -27,7 +28,7 @@ unfolding checkedHead
 head-tests w l f e k r = rw (f, k, r, e)
 
 -- There is no fourth role.
-pub role-other : (w : Who) (h : Head) (r : ℕ) → (r ≡ 0 → ⊥) → (r ≡ 1 → ⊥) → (r ≡ 2 → ⊥) → roleHead w r h ≡ false
+pub role-other : (w : Who) (h : Head) (r : ℕ) → (r ≡ as-follower → ⊥) → (r ≡ as-candidate → ⊥) → (r ≡ as-leader → ⊥) → roleHead w r h ≡ false
 unfolding roleHead
 role-other w h zero a b c = absurd (a refl)
 role-other w h (suc zero) a b c = absurd (b refl)

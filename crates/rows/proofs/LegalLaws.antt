@@ -59,7 +59,7 @@ rows-end rising low high n l h =
 -- ---- entries
 
 -- Entries are legal exactly if their rows are, and rise.
-pub entries-rows : (low high : ℕ) (es : List Entry) → legalRows true low high (map entryRow es) ≡ legalEntries low high es
+entries-rows : (low high : ℕ) (es : List Entry) → legalRows true low high (map entryRow es) ≡ legalEntries low high es
 unfolding legalRows legalEntries
 entries-rows low high [] = refl
 entries-rows low high (e ∷ es) = rw (entries-rows (e .term) high es)

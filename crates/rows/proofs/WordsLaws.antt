@@ -6,6 +6,7 @@ use mathlib.Core.Path.{_≡_, refl, sym, _∙_, ap}
 use mathlib.Core.List.{List, _++_, append-assoc}
 use lib.ListN.{length}
 use lib.Seq.{sets}
+use Rattle.kinds.specs.Sizes.{row-size}
 use Rattle.command.specs.Words.{word, wordAt, part}
 use Rattle.command.specs.Command.{command-size, commandBytes, commandOf}
 use Rattle.command.specs.Answers.{ofWords}
@@ -55,19 +56,21 @@ words-written c at l e1 e2 e3 e4 =
 
 -- A number and a command behind it are a row.
 pub row-written :
-    (n : ℕ) (c : Words) (at : ℕ) (l : List ℕ) {l1 l2 : List ℕ} → l1 ≡ sets l at (word 4 n) → l2 ≡ sets l1 (at + 4) (wordsBytes c) → l2 ≡ sets l at (rowWords n c)
+    (n : ℕ) (c : Words) (at : ℕ) (l : List ℕ) {m : ℕ} {l1 l2 : List ℕ} → m ≡ n → l1 ≡ sets l at (word 4 m) → l2 ≡ sets l1 (at + 4) (wordsBytes c)
+    → l2 ≡ sets l at (rowWords n c)
 unfolding rowWords
-row-written n c at l e1 e2 = rw (e2, e1) (word-then l at (at + 4) 4 n (wordsBytes c) (omega arith))
+row-written n c at l e e1 e2 = rw (e2, e1, e) (word-then l at (at + 4) 4 n (wordsBytes c) (omega arith))
 
 -- ---- rows that take another number
 
--- One row less is left.
-pub renumbered-next : (l : List ℕ) (at n t : ℕ) → 0 < n → renumbered l at n t ≡ renumbered (sets l at (word 4 t)) (at + 20) (n - 1) t
+-- One row has its number; one less is left.
+pub renumbered-next :
+    (l : List ℕ) (at n t : ℕ) {m : ℕ} {l′ : List ℕ} → 0 < n → m ≡ t → l′ ≡ sets l at (word 4 m) → renumbered l at n t ≡ renumbered l′ (at + row-size) (n - 1) t
 unfolding renumbered
-renumbered-next l at zero t h = absurd (omega arith)
-renumbered-next l at (suc n) t h =
-    let e : n ≡ suc n - 1 = omega arith in
-    ap (λ (m : ℕ). renumbered (sets l at (word 4 t)) (at + 20) m t) e
+renumbered-next l at zero t h em e = absurd (omega arith)
+renumbered-next l at (suc n) t h em e =
+    let less : n ≡ suc n - 1 = omega arith in
+    rw (e, em) (ap (λ (k : ℕ). renumbered (sets l at (word 4 t)) (at + row-size) k t) less)
 
 -- None is left.
 pub renumbered-none : (l : List ℕ) (at n t : ℕ) → n ≤ 0 → renumbered l at n t ≡ l

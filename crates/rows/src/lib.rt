@@ -4,8 +4,11 @@ ghost use mathlib.Core.Bool.{cond};
 ghost use Prim.Native.Nat.{_+_, _*_, _≤_};
 ghost use lib.ListN.{length, drop};
 ghost use lib.Seq.{sets};
+ghost use Rattle.kinds.specs.Sizes.{row-size};
+ghost use Rattle.command.specs.Command.{command-size};
 ghost use Rattle.rows.specs.Rows.{rowOf, rowsIn, legalRows};
 ghost use Rattle.rows.specs.Words.{wordsAt, wordsBytes, rowWords, renumbered};
+use kinds::Term;
 
 // A command by its four words, as they stand in its bytes; motor and kind share the first.
 pub struct Words {
@@ -19,7 +22,7 @@ pub struct Words {
 
 // The words of the command in the 16 bytes from a place on.
 pub fn words_at(s: &[u8], at: usize) -> Words
-    requires { ⌜ at + 16 ≤ length (now s) ⌝ }
+    requires { ⌜ at + command-size ≤ length (now s) ⌝ }
     ensures { λ r. ⌜ r ≡ wordsAt at (now (s .entry)) ⌝ }
 {
     Words {
@@ -32,7 +35,7 @@ pub fn words_at(s: &[u8], at: usize) -> Words
 
 // Writes the 16 bytes of a command.
 pub fn put_words(s: &mut [u8], at: usize, c: Words)
-    requires { ⌜ at + 16 ≤ length (now s) ⌝ }
+    requires { ⌜ at + command-size ≤ length (now s) ⌝ }
     ensures { λ _. ⌜ now (s .exit) ≡ sets (now (s .entry)) at (wordsBytes c) ⌝ }
 {
     words::put32(s, at, c.what);
@@ -41,24 +44,24 @@ pub fn put_words(s: &mut [u8], at: usize, c: Words)
     words::put32(s, at + 12, c.b);
 }
 
-// Writes a row: its number, and its command.
-pub fn put_row(s: &mut [u8], at: usize, number: u32, c: Words)
-    requires { ⌜ at + 20 ≤ length (now s) ⌝ }
-    ensures { λ _. ⌜ now (s .exit) ≡ sets (now (s .entry)) at (rowWords number c) ⌝ }
+// Writes a row: its number, which is an entry's term or a gathered pair's ballot, and its command.
+pub fn put_row(s: &mut [u8], at: usize, t: Term, c: Words)
+    requires { ⌜ at + row-size ≤ length (now s) ⌝ }
+    ensures { λ _. ⌜ now (s .exit) ≡ sets (now (s .entry)) at (rowWords (t .0) c) ⌝ }
 {
-    words::put32(s, at, number);
+    words::put32(s, at, t.number());
     put_words(s, at + 4, c);
 }
 
-// Gives n rows from a place on another number; their commands stay.
-pub fn renumber(s: &mut [u8], from: usize, n: u32, number: u32)
-    requires { ⌜ from + n * 20 ≤ length (now s) ⌝ }
-    ensures { λ _. ⌜ now (s .exit) ≡ renumbered (now (s .entry)) from n number ⌝ }
+// Gives n rows from a place on this term; their commands stay.
+pub fn renumber(s: &mut [u8], from: usize, n: u32, t: Term)
+    requires { ⌜ from + n * row-size ≤ length (now s) ⌝ }
+    ensures { λ _. ⌜ now (s .exit) ≡ renumbered (now (s .entry)) from n (t .0) ⌝ }
 {
     let mut at = from;
     let mut left = n;
     while 0 < left {
-        words::put32(s, at, number);
+        words::put32(s, at, t.number());
         at += kinds::ROW;
         left -= 1;
     }
@@ -75,7 +78,7 @@ fn least_behind(rising: bool, t: u32, low: u32) -> u32
 
 // Whether n rows from a place on are legal: numbers from low to high, where they have to rise none below the one before; commands legal.
 pub fn are_legal(s: &[u8], from: usize, n: u32, rising: bool, low: u32, high: u32) -> bool
-    requires { ⌜ from + n * 20 ≤ length (now s) ⌝ }
+    requires { ⌜ from + n * row-size ≤ length (now s) ⌝ }
     ensures { λ r. ⌜ r ≡ legalRows rising low high (rowsIn rowOf n (drop from (now (s .entry)))) ⌝ }
 {
     let mut least = low;

@@ -49,7 +49,7 @@ fn speak(
 {
     let term = h.term;
     let from = g.own;
-    let row = head::row_at(after.number());
+    let row = head::row_after(after);
     writer::put_message(
         out,
         Fields {

@@ -12,6 +12,7 @@ use lib.ListN.{length, drop, getD, length-append, length-map, drop-of-length-le}
 use lib.Seq.{drop-cons}
 use Rattle.kinds.specs.Sizes.{Who, hubs-most, majority, limit, term-most}
 use Rattle.kinds.specs.Of.{place}
+use Rattle.kinds.proofs.SizesLaws.{limit-small}
 use Rattle.command.specs.Entry.{legalEntries}
 use Rattle.state.specs.State.{Kept, Pair, Lost, follower, candidate, leader, State}
 use Rattle.state.specs.Legal.{all, count, legalKept, legalPair, legalCandidate, legalLeader, legalLost, legalState}
@@ -23,11 +24,6 @@ use Rattle.rows.proofs.BoolLaws.{and-first, and-second, and-both, each-holds, o
 use Rattle.state.proofs.HeadLaws.{Fits, placeFits}
 use Rattle.rows.proofs.RowLaws.{rowFits, entries-fit}
 use Rattle.state.proofs.TableLaws.{pairs-fit}
-
--- What is needed of the limit: four bytes hold it.
-pub limit-fits : limit ≤ term-most
-unfolding limit
-limit-fits = omega arith
 
 -- All members have a property that a property of all implies.
 pub all-map : {A B : Type 0} (P : A → Bool) (Q : B → Bool) (f : A → B) → ((x : A) → P x ≡ true → Q (f x) ≡ true) → (xs : List A) →
@@ -267,7 +263,7 @@ module _ (k : Kept) (i : IsKept k) (l : Lost)
   held : Held (record { kept = k; lost = l })
   unfolding headOf rowsOf
   held =
-      let m = limit-fits in
+      let m = limit-small in
       record {
         head =
             record {
@@ -296,7 +292,7 @@ legal-lost w k (leader confirmed) i h =
     let c = legalLeader-is w k confirmed h in
     let n = length (k .log) in
     held k i (leader confirmed) refl (c .seven)
-    (all-map (λ m. leb m n) placeFits place (λ m h. le-leb m term-most (omega (arith, leb-true m n h, i .within, limit-fits))) confirmed (c .most))
+    (all-map (λ m. leb m n) placeFits place (λ m h. le-leb m term-most (omega (arith, leb-true m n h, i .within, limit-small))) confirmed (c .most))
     refl (omega (arith, i .within))
 
 -- A legal state fits its bytes.

@@ -2,7 +2,9 @@
 // bytes the crate `legal`.
 // The layout is docs/LAYOUT.md's: a head of 56 bytes, then a row of 20 bytes for each place of the limit.
 ghost use mathlib.Core.Path.{_≡_};
+ghost use Prim.Native.Nat.{_-_};
 ghost use Rattle.state.specs.Image.{state-size};
+use kinds::Hub;
 use kinds::Place;
 use kinds::Term;
 
@@ -19,6 +21,14 @@ pub struct Head {
     pub role: u8,
     pub voters: [bool; 7],
     pub confirmed: [Place; 7],
+}
+
+// Where a hub stands in the head's lists of seven.
+pub fn index_of(hub: Hub) -> usize
+    ensures { λ r. ⌜ r ≡ hub .0 - 1 ⌝ }
+{
+    let n = hub.number();
+    if n == 0 { 0 } else { (n - 1) as usize }
 }
 
 // How many bytes a state has.

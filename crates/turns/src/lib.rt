@@ -6,7 +6,7 @@ ghost use Prim.Native.Nat.{_+_, _-_, _*_, _≤_, _<_, max};
 ghost use lib.ListN.{length, replicate};
 ghost use lib.Seq.{sets};
 ghost use Rattle.kinds.specs.Of.{place, term};
-ghost use Rattle.kinds.specs.Sizes.{limit, row-size};
+ghost use Rattle.kinds.specs.Sizes.{hubs-most, term-most, limit, row-size};
 ghost use Rattle.state.specs.Image.{head-size, state-size, image, keptIn, stateIn, readKept};
 ghost use Rattle.state.specs.Check.{isSome};
 ghost use Rattle.rules.specs.Events.{started, restart};
@@ -57,10 +57,10 @@ pub fn follow(h: Head, t: Term) -> Head
 
 // A candidate of the next term, with itself as its voter.
 fn stand(h: Head, own: Hub) -> Head
-    requires { ⌜ (1 ≤ own .0) × (own .0 ≤ 7) × (h .term .0 < 4294967295) ⌝ }
+    requires { ⌜ (1 ≤ own .0) × (own .0 ≤ hubs-most) × (h .term .0 < term-most) ⌝ }
     ensures { λ r. ⌜ r ≡ standing h (own .0) ⌝ }
 {
-    let i = (own.number() - 1) as usize;
+    let i = state::index_of(own);
     let mut itself = [false; 7];
     itself[i] = true;
     let mut next = follow(h, Term::of(h.term.number() + 1));
@@ -69,13 +69,13 @@ fn stand(h: Head, own: Hub) -> Head
     next
 }
 
-// A leader whose log n gathered entries have joined: ballot = term, lost parts cleared, own confirmed length = length.
-pub fn lead(h: Head, own: Hub, n: u32) -> Head
-    requires { ⌜ (1 ≤ own .0) × (own .0 ≤ 7) × (h .length .0 + n ≤ 4294967295) ⌝ }
-    ensures { λ r. ⌜ r ≡ leading h (own .0) n ⌝ }
+// A leader whose log the gathered entries have joined: ballot = term, lost parts cleared, own confirmed length = length.
+pub fn lead(h: Head, own: Hub) -> Head
+    requires { ⌜ (1 ≤ own .0) × (own .0 ≤ hubs-most) × (h .length .0 + h .gathered .0 ≤ limit) ⌝ }
+    ensures { λ r. ⌜ r ≡ leading h (own .0) ⌝ }
 {
-    let i = (own.number() - 1) as usize;
-    let long = Place::of(h.length.number() + n);
+    let i = state::index_of(own);
+    let long = Place::of(h.length.number() + h.gathered.number());
     let t = h.term;
     let mut next = follow(h, t);
     next.ballot = t;
@@ -102,11 +102,11 @@ pub fn clear_gathered(h: Head, state: &mut [u8])
     requires { ⌜ (h .length .0 + h .gathered .0 ≤ limit) × (length (now state) ≡ state-size) ⌝ }
     ensures { λ _. ⌜ now (state .exit) ≡ sets (now (state .entry)) (head-size + h .length .0 * row-size) (replicate (h .gathered .0 * row-size) 0) ⌝ }
 {
-    let n = h.length.number();
+    let from = head::row_after(h.length);
     clear(
         state,
-        head::row_at(n),
-        head::row_at(n + h.gathered.number()),
+        from,
+        from + (h.gathered.number() as usize) * kinds::ROW,
     );
 }
 
@@ -135,6 +135,6 @@ pub fn restart_in(state: &mut [u8])
 {
     let h = head::read_head(state);
     let end = state.len();
-    clear(state, head::row_at(h.length.number()), end);
+    clear(state, head::row_after(h.length), end);
     head::write_head(state, follow(h, h.term));
 }

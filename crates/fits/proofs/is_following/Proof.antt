@@ -5,7 +5,8 @@ use lib.Dec.{eqb}
 use borrow.Author.Needs.{needs}
 use borrow.Author.Tests.{ltb-true, ltb-false}
 use Rattle.kinds.specs.declared.Term.{Term}
-use Rattle.promise.proofs.AppendLaws.{tested-length, follows-start, follows-beyond, follows-behind}
+use Rattle.promise.proofs.AppendLaws.{tested-length}
+use Rattle.fits.proofs.FitsLaws.{follows-start, follows-beyond, follows-behind}
 use Rattle.fits.proofs.is_following.Statement.{statement}
 use Rattle.fits.proofs.is_following.Tie as tie
 

@@ -1,8 +1,6 @@
 -- `gate::is_fit` meets its contract: what is checked is what the event needs. Assumes nothing.
-use mathlib.Core.Path.{sym, _∙_, ap}
+use mathlib.Core.Path.{sym, _∙_}
 use borrow.Author.Needs.{needs}
-use Rattle.state.specs.Image.{readState}
-use Rattle.state.specs.Check.{isSome, who}
 use Rattle.promise.proofs.GateLaws.{fit-restart, fit-other}
 use Rattle.gate.proofs.is_fit.Statement.{statement}
 use Rattle.gate.proofs.is_fit.Tie as tie
@@ -13,11 +11,7 @@ kept-parts c = c .is-kept-legal .ensures ∙ sym (fit-restart _ _ _ (c .before .
 
 -- Any other event.
 whole-state : tie.Need-returns-2
-whole-state c =
-    let start = c .before .before .before .before .args in
-    c .is-legal .ensures
-    ∙ ap (λ own. isSome (readState (who (start .g .size) own) (start .state .now))) (c .before .number .ensures)
-    ∙ sym (fit-other _ _ _ (c .before .before .if1 .left))
+whole-state c = c .is-legal .ensures ∙ sym (fit-other _ _ _ (c .before .if1 .left))
 
 pub is-fit-spec : {M : Type 1} → statement M
-is-fit-spec = tie.close (tie.spec (λ c κs. search needs) kept-parts (λ c κs. search needs) (λ c κs. search needs) whole-state)
+is-fit-spec = tie.close (tie.spec (λ c κs. search needs) kept-parts (λ c κs. search needs) whole-state)

@@ -2,7 +2,7 @@
 use mathlib.Core.Path.{sym, _∙_}
 use borrow.Author.Tests.{not-true, not-false}
 use borrow.Author.Needs.{needs}
-use Rattle.promise.proofs.GateLaws.{gate-unknown, gate-unfit, gate-short, gate-open}
+use Rattle.gate.proofs.GateLaws.{gate-unknown, gate-unfit, gate-short, gate-open}
 use Rattle.gate.proofs.refusal_before.Statement.{statement}
 use Rattle.gate.proofs.refusal_before.Tie as tie
 

@@ -6,7 +6,7 @@ use Rattle.gather.proofs.add_voter.Tie as tie
 
 one-voter : tie.Need-returns
 unfolding withVoter
-one-voter c = simp (c .greater .ensures, c .before .of .ensures, c .before .before .number .ensures)
+one-voter c = simp (c .greater .ensures, c .before .of .ensures, c .before .before .index-of .ensures)
 
 pub add-voter-spec : {M : Type 1} → statement M
-add-voter-spec = tie.close (tie.spec (λ c κs. search needs) (λ c. search needs) (λ c. search needs) (λ c. search needs) (λ c κs. search needs) (λ c κs. search needs) one-voter)
+add-voter-spec = tie.close (tie.spec (λ c κs. search needs) (λ c. search needs) (λ c κs. search needs) (λ c κs. search needs) one-voter)

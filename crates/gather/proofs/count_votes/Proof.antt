@@ -3,7 +3,6 @@
 use native.Mathlib.Omega.{arith}
 use borrow.Author.Needs.{needs}
 use Rattle.state.specs.Image.{state-size}
-use Rattle.state.proofs.LegalLaws.{limit-fits}
 use Rattle.gather.proofs.CountedLaws.{counted-few, counted-majority}
 use Rattle.gather.proofs.count_votes.Statement.{statement}
 use Rattle.gather.proofs.count_votes.Tie as tie
@@ -21,32 +20,34 @@ few c = counted-few _ _ _ (c .before .before .before .before .before .before .co
 inside : tie.Need-renumber-requires
 unfolding state-size
 inside c κs =
-    let pre = c .before .before .before .before .before .before .before .before .before .before .pre in
-    omega (arith, pre .long, pre .room, c .before .before .before .before .number .ensures, c .before .before .number2 .ensures, c .before .row-at .ensures)
+    let at-row = c .before in
+    let pre = at-row .before .before .before .before .before .before .before .pre in
+    omega (arith, pre .long, pre .room, at-row .row-after .ensures, c .number .ensures)
 
--- The own number is a hub's, and the length does not wrap.
+-- The own number is a hub's, and the joined log is within the limit.
 may-lead : tie.Need-lead-requires
 may-lead c κs =
-    let pre = c .before .before .before .before .before .before .before .before .before .before .before .before .before .before .pre in
-    (pre .own-first, pre .own-last, omega (arith, pre .room, limit-fits, c .before .before .before .before .before .before .before .before .number .ensures))
+    let pre = c .before .before .before .before .before .before .before .before .before .before .before .before .pre in
+    (pre .own-first, pre .own-last, pre .room)
 
 -- The head is still there.
 head-still : tie.Need-write-head-requires-2
 unfolding state-size
 head-still c κs =
-    omega (arith, c .before .before .before .before .before .before .before .before .before .before .before .before .before .before .before .pre .long, c .before .before .before .before .renumber .kept)
+    let at-renumber = c .before .before .before .before in
+    omega (arith, at-renumber .before .before .before .before .before .before .before .before .before .pre .long, at-renumber .renumber .kept)
 
 -- The hub leads.
 majority : tie.Need-returns-2
 majority c =
     let at-lead = c .before .before .before in
     let at-renumber = at-lead .before .before .before .before in
-    let at-row = at-renumber .before .before in
-    let at-number = at-row .before .before .before in
-    let at-if = at-number .before in
-    counted-majority _ _ _ (at-if .before .before .count-voters .ensures) (at-if .if1 .left) (at-number .number .ensures) (at-row .before .number2 .ensures) (at-row .row-at .ensures) (at-renumber .before .number3 .ensures) (at-renumber .renumber .ensures) (at-lead .lead .ensures) (c .before .before .write-head2 .ensures)
+    let at-number = at-renumber .before in
+    let at-row = at-number .before in
+    let at-if = at-row .before .before in
+    counted-majority _ _ _ (at-if .before .before .count-voters .ensures) (at-if .if1 .left) (at-row .row-after .ensures) (at-number .number .ensures) (at-renumber .renumber .ensures) (at-lead .lead .ensures) (c .before .before .write-head2 .ensures)
 
 pub count-votes-spec : {M : Type 1} → statement M
 count-votes-spec =
     tie.close
-    (tie.spec (λ c κs. search needs) (λ c. search needs) head-there (λ c. search needs) few (λ c κs. search needs) (λ c κs. search needs) (λ c κs. search needs) (λ c κs. search needs) inside may-lead head-still (λ c. search needs) majority)
+    (tie.spec (λ c κs. search needs) (λ c. search needs) head-there (λ c. search needs) few (λ c κs. search needs) (λ c κs. search needs) inside may-lead head-still (λ c. search needs) majority)

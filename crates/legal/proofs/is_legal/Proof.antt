@@ -16,7 +16,7 @@ other-length : tie.Need-returns
 other-length c =
     let start = c .before .before .before in
     sym
-    (state-length (who (start .args .size) (start .args .own)) (now (start .args .s)) (λ e. c .if1 .taken (e ∙ sym (c .before .state-bytes .ensures))))
+    (state-length (who (start .args .size) (start .args .own .0)) (now (start .args .s)) (λ e. c .if1 .taken (e ∙ sym (c .before .state-bytes .ensures))))
 
 -- The head is there.
 head-there : tie.Need-is-legal-head-requires
@@ -28,7 +28,7 @@ head-not c =
     let sized = c .before .before in
     let start = sized .before .before .before in
     let l = now (start .args .s) in
-    let w = who (start .args .size) (start .args .own) in
+    let w = who (start .args .size) (start .args .own .0) in
     let long = sized .if1 .left ∙ sized .before .state-bytes .ensures in
     sym
     (state-checked w l (λ i. sized .before .before .shared-slice-known .given i .fits) long
@@ -41,7 +41,7 @@ rows-fit c κs =
     let start = sized .before .before .before in
     let long = sized .if1 .left ∙ sized .before .state-bytes .ensures in
     let head = sym (c .before .is-legal-head .ensures) ∙ not-false _ (c .if2 .left) in
-    head-room (who (start .args .size) (start .args .own)) (now (start .args .s)) long head
+    head-room (who (start .args .size) (start .args .own .0)) (now (start .args .s)) long head
 
 -- The table decides.
 table : tie.Need-returns-3
@@ -49,7 +49,7 @@ table c =
     let sized = c .before .before .before in
     let start = sized .before .before .before in
     let l = now (start .args .s) in
-    let w = who (start .args .size) (start .args .own) in
+    let w = who (start .args .size) (start .args .own .0) in
     let long = sized .if1 .left ∙ sized .before .state-bytes .ensures in
     let head = sym (c .before .before .is-legal-head .ensures) ∙ not-false _ (c .before .if2 .left) in
     c .is-legal-table .ensures ∙ sym (state-checked w l (λ i. sized .before .before .shared-slice-known .given i .fits) long ∙ and-holds _ head)

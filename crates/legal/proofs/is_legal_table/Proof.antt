@@ -5,6 +5,7 @@ use borrow.Author.Tests.{not-true, not-false}
 use native.Mathlib.Omega.{arith}
 use denote.Ref.{now}
 use borrow.Author.Needs.{needs}
+use Rattle.kinds.specs.Sizes.{row-size}
 use Rattle.legal.proofs.CheckSteps.{head-there, table-there, table-log, table-gathered, table-zeros}
 use Rattle.legal.proofs.is_legal_table.Statement.{statement}
 use Rattle.legal.proofs.is_legal_table.Tie as tie
@@ -35,7 +36,7 @@ gathered-there c κs =
     let known = c .before .before .before .before .before .before in
     let start = known .before .before in
     let rows = table-there (now (start .args .s)) (known .read-head .result) (known .read-head .ensures) (start .pre) in
-    omega (arith, c .before .before .before .number .ensures)
+    omega (arith, c .before .before .before .row-after .ensures)
 
 -- Gathered rows that are not legal.
 gathered-not : tie.Need-returns-2
@@ -43,10 +44,10 @@ gathered-not c =
     let at-log = c .before .before .before in
     let known = at-log .before .before .before .before .before in
     let start = known .before .before in
-    let n = at-log .before .before .number in
+    let second = at-log .before .before .row-after in
     sym
     (table-gathered (now (start .args .s)) (known .read-head .result) (known .read-head .ensures) (at-log .is-log .result) (at-log .is-log .ensures)
-    (c .before .is-gathered .result) (56 + n .result * 20) (omega (arith, n .ensures)) (c .before .is-gathered .ensures)
+    (c .before .is-gathered .result) (second .result) (second .ensures) (c .before .is-gathered .ensures)
     (not-false _ (c .before .before .if1 .left)) (not-true _ (c .if2 .taken)))
 
 -- The unused bytes decide.
@@ -55,17 +56,17 @@ unused c =
     let at-log = c .before .before .before .before in
     let known = at-log .before .before .before .before .before in
     let start = known .before .before in
-    let n = at-log .before .before .number in
-    let g = at-log .before .number2 in
+    let second = at-log .before .before .row-after in
+    let g = at-log .before .number in
     c .is-zero .ensures
     ∙ sym
     (table-zeros (now (start .args .s)) (known .read-head .result) (known .read-head .ensures) (at-log .is-log .result) (at-log .is-log .ensures)
-    (c .before .before .is-gathered .result) (56 + n .result * 20) (omega (arith, n .ensures)) (c .before .before .is-gathered .ensures)
-    (not-false _ (c .before .before .before .if1 .left)) (not-false _ (c .before .if2 .left)) (56 + n .result * 20 + g .result * 20)
+    (c .before .before .is-gathered .result) (second .result) (second .ensures) (c .before .before .is-gathered .ensures)
+    (not-false _ (c .before .before .before .if1 .left)) (not-false _ (c .before .if2 .left)) (second .result + g .result * row-size)
     (omega (arith, g .ensures)))
 
 pub is-legal-table-spec : {M : Type 1} → statement M
 is-legal-table-spec =
     tie.close
-    (tie.spec begins (λ c κs. search needs) (λ c. search needs) (λ c. search needs) (λ c. search needs) (λ c κs. search needs) (λ c. search needs)
-    (λ c. search needs) (λ c. search needs) log-there log-not gathered-there gathered-not (λ c κs. search needs) unused)
+    (tie.spec begins (λ c κs. search needs) (λ c κs. search needs) (λ c. search needs) (λ c. search needs) (λ c. search needs)
+    log-there log-not gathered-there gathered-not (λ c κs. search needs) unused)

@@ -6,6 +6,7 @@ use native.Mathlib.Omega.{arith}
 use lib.ListN.{length, drop}
 use lib.Seq.{sets}
 use borrow.Author.Needs.{needs}
+use Rattle.kinds.specs.Sizes.{row-size}
 use Rattle.message.specs.Walk.{entriesFrom, Lie}
 use Rattle.rows.specs.Rows.{bytesOf}
 use Rattle.state.specs.Image.{logRow}
@@ -13,7 +14,6 @@ use Rattle.entries.proofs.WalkLaws.{lie-on, lie-next}
 use Rattle.replace.proofs.EntriesLaws.{put-none, put-next}
 use Rattle.replace.proofs.put_entries.Statement.{statement}
 use Rattle.replace.proofs.put_entries.Tie as tie
-use Rattle.kinds.specs.Sizes.{row-size}
 
 abbrev Inv-loop : tie.InvT-loop
 Inv-loop state₀ row count lines table to₀ from₀ left₀ state to from left =
@@ -37,8 +37,7 @@ found c =
 again : tie.Need-loop-again Inv-loop μ-loop
 again c =
     let at-put-row = c .before .before in
-    let at-number = at-put-row .before in
-    let at-known-told = at-number .before .before in
+    let at-known-told = at-put-row .before .before in
     let at-term = at-known-told .before in
     let at-next-entry = at-term .before .before in
     let at-loop-test = at-next-entry .before .before in
@@ -46,7 +45,7 @@ again c =
     let wrote = at-put-row .put-row .ensures in
     let walked = lie-next _ (loop .from) (loop .left) (loop .inv .0) (at-loop-test .loop-test .taken) (at-next-entry .next-entry .result) (at-next-entry .next-entry .ensures) _ _ _ _ _ _ (at-term .term .given .1) in
     let same = at-put-row .put-row .kept in
-    (walked .lie, omega (arith, same, loop .inv .1, at-loop-test .loop-test .taken), omega (arith, same, loop .inv .2), loop .inv .3 ∙ put-next (loop .state) (loop .to) walked (omega (arith, at-known-told .known-told .given .1 .1 .0 .1)) (at-number .number .ensures) wrote)
+    (walked .lie, omega (arith, same, loop .inv .1, at-loop-test .loop-test .taken), omega (arith, same, loop .inv .2), loop .inv .3 ∙ put-next (loop .state) (loop .to) walked (omega (arith, at-known-told .known-told .given .1 .1 .0 .1)) wrote)
 
 -- All are in their rows.
 ends : tie.Need-returns-2 Inv-loop μ-loop
@@ -57,4 +56,4 @@ ends c =
 pub put-entries-spec : {M : Type 1} → statement M
 put-entries-spec =
     tie.close
-    (tie.spec Inv-loop μ-loop (λ c κs. search needs) (λ c. (search needs, search needs, refl, refl)) (λ c κs. search needs) (λ c. search needs) (λ c. search needs) (λ c. search needs) found (λ c κs. search needs) (λ c κs. search needs) (λ c. search needs) (λ c. search needs) (λ c. search needs) again (λ c. search needs) ends)
+    (tie.spec Inv-loop μ-loop (λ c κs. search needs) (λ c. (search needs, search needs, refl, refl)) (λ c κs. search needs) (λ c. search needs) (λ c. search needs) (λ c. search needs) found (λ c κs. search needs) (λ c. search needs) (λ c. search needs) (λ c. search needs) again (λ c. search needs) ends)

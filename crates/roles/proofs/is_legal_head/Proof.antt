@@ -13,7 +13,7 @@ not-flags : tie.Need-returns
 not-flags c =
     let start = c .before .before .before in
     let flags = sym (c .before .are-flags .ensures) ∙ not-true _ (c .if1 .taken) in
-    sym (head-flags (who (start .args .size) (start .args .own)) (now (start .args .s)) flags)
+    sym (head-flags (who (start .args .size) (start .args .own .0)) (now (start .args .s)) flags)
 
 -- The tests of the numbers decide.
 numbers : tie.Need-returns-2
@@ -21,7 +21,7 @@ numbers c =
     let at-flags = c .before .before .before .before in
     let start = at-flags .before .before in
     let flags = sym (at-flags .are-flags .ensures) ∙ not-false _ (c .before .before .before .if1 .left) in
-    head-tests (who (start .args .size) (start .args .own)) (now (start .args .s)) flags
+    head-tests (who (start .args .size) (start .args .own .0)) (now (start .args .s)) flags
     (c .before .before .read-head .ensures) (c .before .is-kept-head .ensures) (c .is-role-head .ensures)
 
 pub is-legal-head-spec : {M : Type 1} → statement M

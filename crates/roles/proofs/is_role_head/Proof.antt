@@ -14,20 +14,20 @@ by-number w h e = ap (λ (m : ℕ). roleHead w m h) (sym e)
 
 is-follower : tie.Need-returns
 unfolding roleHead
-is-follower c = c .is-follower-head .ensures ∙ by-number _ _ (c .before .match .keys1)
+is-follower c = c .is-follower-head .ensures ∙ by-number _ _ (c .before .if1 .taken)
 
 is-candidate : tie.Need-returns-2
 unfolding roleHead
-is-candidate c = c .is-candidate-head .ensures ∙ by-number _ _ (c .before .match .keys2)
+is-candidate c = c .is-candidate-head .ensures ∙ by-number _ _ (c .before .if2 .taken)
 
 is-leader : tie.Need-returns-3
 unfolding roleHead
-is-leader c = c .is-leader-head .ensures ∙ by-number _ _ (c .before .match .keys3)
+is-leader c = c .is-leader-head .ensures ∙ by-number _ _ (c .before .if3 .taken)
 
 is-none : tie.Need-returns-4
-is-none c = sym (role-other _ _ _ (c .match .rest .0 .0 .1) (c .match .rest .0 .1) (c .match .rest .1))
+is-none c = sym (role-other _ _ _ (c .before .before .before .before .if1 .left) (c .before .before .if2 .left) (c .if3 .left))
 
 pub is-role-head-spec : {M : Type 1} → statement M
 is-role-head-spec =
     tie.close
-    (tie.spec (λ c κs. search needs) (λ c κs. search needs) (λ c κs. search needs) is-follower is-candidate is-leader is-none)
+    (tie.spec (λ c κs. search needs) is-follower (λ c κs. search needs) is-candidate (λ c κs. search needs) is-leader is-none)

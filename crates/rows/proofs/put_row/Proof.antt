@@ -6,8 +6,8 @@ use Rattle.rows.proofs.put_row.Tie as tie
 
 whole-row : tie.Need-returns
 whole-row c =
-    let start = c .before .before .before .before .before .before .before .before .before .args in
-    row-written (start .number) (start .c) (start .at) (start .s .now) (c .before .before .before .before .before .before .put32 .ensures) (c .before .before .put-words .ensures)
+    let at-put32 = c .before .before .before .before .before .before in
+    row-written _ _ _ _ (at-put32 .before .number .ensures) (at-put32 .put32 .ensures) (c .before .before .put-words .ensures)
 
 pub put-row-spec : {M : Type 1} → statement M
-put-row-spec = tie.close (tie.spec (λ c κs. search needs) (λ c. search needs) (λ c κs. search needs) (λ c. search needs) whole-row)
+put-row-spec = tie.close (tie.spec (λ c κs. search needs) (λ c κs. search needs) (λ c. search needs) (λ c κs. search needs) (λ c. search needs) whole-row)

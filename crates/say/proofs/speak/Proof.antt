@@ -1,19 +1,16 @@
 -- `say::speak` meets its contract: the fields and the rows from the place on are handed over, and what is written is the message. Assumes nothing.
-use Prim.Native.Nat.{ℕ, _+_, _*_}
-use mathlib.Core.Path.{refl, _∙_, ap}
+use mathlib.Core.Path.{refl}
 use native.Mathlib.Omega.{arith}
 use borrow.Author.Needs.{needs}
-use Rattle.state.specs.Image.{head-size}
 use Rattle.say.proofs.SpokenLaws.{spoken-inside, spoken-puts, spoken-said}
 use Rattle.say.proofs.speak.Statement.{statement}
 use Rattle.say.proofs.speak.Tie as tie
-use Rattle.kinds.specs.Sizes.{row-size}
 
 -- The row of the place lies within the bytes.
 inside : tie.Need-sub-put-message
 inside c =
-    let start = c .before .before .before .before .before .before .before in
-    omega (arith, spoken-inside _ _ _ (start .args .to) _ _ _ (start .pre), c .before .row-at .ensures, c .before .before .number .ensures)
+    let start = c .before .before .before .before .before .before in
+    omega (arith, spoken-inside _ _ _ (start .args .to) _ _ _ (start .pre), c .before .row-after .ensures)
 
 -- So the part that is lent starts there.
 starts : tie.Need-part-put-message-start
@@ -22,15 +19,15 @@ starts c = inside c
 -- The message may be written.
 may-put : tie.Need-put-message-requires
 may-put c κs =
-    let start = c .before .before .before .before .before .before .before .before in
-    spoken-puts _ _ _ (start .args .to) (start .args .body) _ _ (start .pre) (start .args .g .own) refl (c .before .before .row-at .ensures ∙ ap (λ (n : ℕ). head-size + n * row-size) (c .before .before .before .number .ensures))
+    let start = c .before .before .before .before .before .before .before in
+    spoken-puts _ _ _ (start .args .to) (start .args .body) _ _ (start .pre) (start .args .g .own) refl (c .before .before .row-after .ensures)
 
 -- It is what the hub says.
 said : tie.Need-returns
 said c =
-    let at-row-at = c .before .before .before .before .before in
-    let start = at-row-at .before .before .before .before .before .before in
-    spoken-said _ _ _ (start .args .to) (start .args .body) _ _ (start .pre) (start .args .g .own) refl (at-row-at .row-at .ensures ∙ ap (λ (n : ℕ). head-size + n * row-size) (at-row-at .before .number .ensures)) (c .before .before .put-message .ensures)
+    let at-row = c .before .before .before .before .before in
+    let start = at-row .before .before .before .before .before in
+    spoken-said _ _ _ (start .args .to) (start .args .body) _ _ (start .pre) (start .args .g .own) refl (at-row .row-after .ensures) (c .before .before .put-message .ensures)
 
 pub speak-spec : {M : Type 1} → statement M
-speak-spec = tie.close (tie.spec (λ c κs. search needs) (λ c κs. search needs) inside starts (λ c. search needs) may-put (λ c. search needs) said)
+speak-spec = tie.close (tie.spec (λ c κs. search needs) inside starts (λ c. search needs) may-put (λ c. search needs) said)

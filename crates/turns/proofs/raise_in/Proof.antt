@@ -4,7 +4,8 @@ use native.Mathlib.Omega.{arith}
 use borrow.Author.Needs.{needs}
 use Rattle.state.specs.declared.Head.{Head}
 use Rattle.promise.proofs.PromiseLaws.{ready-size, ready-long}
-use Rattle.promise.proofs.LostLaws.{rows-within, raise-steps}
+use Rattle.promise.proofs.LostLaws.{rows-within}
+use Rattle.turns.proofs.ClearedLaws.{raise-steps}
 use Rattle.turns.proofs.raise_in.Statement.{statement}
 use Rattle.turns.proofs.raise_in.Tie as tie
 

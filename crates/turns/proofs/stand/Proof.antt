@@ -6,7 +6,7 @@ use Rattle.turns.proofs.stand.Tie as tie
 
 itself-alone : tie.Need-returns
 unfolding standing following
-itself-alone c = simp (c .follow .ensures, c .before .of .ensures, c .before .before .number2 .ensures, c .before .before .before .number .ensures)
+itself-alone c = simp (c .follow .ensures, c .before .of .ensures, c .before .before .number .ensures, c .before .before .before .index-of .ensures)
 
 pub stand-spec : {M : Type 1} → statement M
-stand-spec = tie.close (tie.spec (λ c κs. search needs) (λ c. search needs) (λ c. search needs) (λ c. search needs) (λ c κs. search needs) (λ c. search needs) (λ c κs. search needs) (λ c κs. search needs) itself-alone)
+stand-spec = tie.close (tie.spec (λ c κs. search needs) (λ c. search needs) (λ c κs. search needs) (λ c. search needs) (λ c κs. search needs) (λ c κs. search needs) itself-alone)

@@ -4,7 +4,8 @@ use native.Mathlib.Omega.{arith}
 use borrow.Author.Needs.{needs}
 use Rattle.state.specs.declared.Head.{Head}
 use Rattle.promise.proofs.PromiseLaws.{ready-size, ready-long, ready-who}
-use Rattle.promise.proofs.LostLaws.{rows-within, start-steps}
+use Rattle.promise.proofs.LostLaws.{rows-within}
+use Rattle.turns.proofs.ClearedLaws.{start-steps}
 use Rattle.turns.proofs.start_in.Statement.{statement}
 use Rattle.turns.proofs.start_in.Tie as tie
 
