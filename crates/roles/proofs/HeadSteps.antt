@@ -1,11 +1,12 @@
 -- The check of a head, as the code's tests give it. Over plain variables, so that a function's proof only names a law. Assumes nothing.
 use Prim.Native.Nat.{ℕ, zero, suc}
 use mathlib.Core.Path.{_≡_, refl}
-use mathlib.Core.Bool.{Bool, true, false, _&&_}
+use mathlib.Core.Bool.{Bool, true, false, not, _&&_, _||_}
 use mathlib.Core.List.{List}
+use lib.Dec.{leb, eqb}
 use Rattle.kinds.specs.Hubs.{all}
 use Rattle.kinds.specs.Role.{as-follower, as-candidate, as-leader}
-use Rattle.kinds.specs.Sizes.{Who, hubs-most}
+use Rattle.kinds.specs.Sizes.{Who, hubs-most, limit}
 use Rattle.command.specs.Words.{part}
 use Rattle.rows.proofs.BoolLaws.{and-fails}
 use Rattle.state.specs.declared.Head.{Head}
@@ -26,6 +27,17 @@ pub head-tests : (w : Who) (l : List ℕ) {h : Head} {kept role : Bool} →
     (kept && role) ≡ checkedHead w l
 unfolding checkedHead
 head-tests w l f e k r = rw (f, k, r, e)
+
+-- The tests of the kept parts' numbers.
+pub kept-tests : (h : Head) {ballot term chosen long most : ℕ} →
+    ballot ≡ h .ballot .0 →
+    long ≡ h .length .0 →
+    term ≡ h .term .0 →
+    chosen ≡ h .chosen .0 →
+    most ≡ limit →
+    (leb ballot term && (leb chosen long && (leb long most && (not (eqb ballot 0) || eqb long 0)))) ≡ keptHead h
+unfolding keptHead
+kept-tests h b n t c m = rw (b, n, t, c, m)
 
 -- There is no fourth role.
 pub role-other : (w : Who) (h : Head) (r : ℕ) → (r ≡ as-follower → ⊥) → (r ≡ as-candidate → ⊥) → (r ≡ as-leader → ⊥) → roleHead w r h ≡ false

@@ -1,12 +1,12 @@
 -- `roles::is_kept_head` meets its contract: the tests are the definition's. Assumes nothing.
 use borrow.Author.Needs.{needs}
-use Rattle.state.specs.Head.{keptHead}
+use Rattle.roles.proofs.HeadSteps.{kept-tests}
 use Rattle.roles.proofs.is_kept_head.Statement.{statement}
 use Rattle.roles.proofs.is_kept_head.Tie as tie
 
 as-defined : tie.Need-returns
-unfolding keptHead
-as-defined c = cc
+as-defined c =
+    kept-tests _ (c .before .before .before .before .number .ensures) (c .before .before .before .number2 .ensures) (c .before .before .number3 .ensures) (c .before .number4 .ensures) (c .places .ensures)
 
 pub is-kept-head-spec : {M : Type 1} → statement M
 is-kept-head-spec =
