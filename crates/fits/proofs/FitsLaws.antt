@@ -11,6 +11,7 @@ use Rattle.kinds.specs.Sizes.{Who, row-size}
 use Rattle.command.specs.Words.{wordAt}
 use Rattle.command.specs.Entry.{Entry}
 use Rattle.rows.specs.Rows.{rowsIn, entryOf}
+use Rattle.rows.proofs.BoolLaws.{not-below}
 use Rattle.rows.proofs.PartLaws.{wordAt-drop}
 use Rattle.state.specs.declared.Head.{Head}
 use Rattle.state.specs.State.{Kept}
@@ -21,7 +22,6 @@ use Rattle.rules.specs.Receive.{fits}
 use Rattle.promise.specs.Append.{Tested}
 use Rattle.promise.proofs.PromiseLaws.{ready-size}
 use Rattle.promise.proofs.LostLaws.{rows-within}
-use Rattle.promise.proofs.AppendLaws.{not-below}
 use Rattle.fits.specs.Follows.{follows}
 
 -- The number of row i, among n rows.

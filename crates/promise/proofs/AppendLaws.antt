@@ -1,21 +1,13 @@
--- Laws of what holds where an append is tested: the head's numbers are those of the state; and of places that are not below others. Assumes nothing.
+-- Laws of what holds where an append is tested: the head's numbers are those of the state. Assumes nothing.
 use Prim.Native.Nat.{ℕ}
 use mathlib.Core.Path.{_≡_, _∙_, ap}
-use mathlib.Core.Bool.{not}
 use mathlib.Core.List.{List}
-use borrow.Author.Tests.{leb-true, ltb-false, le-leb, le-ltb, not-true}
-use lib.Dec.{leb, ltb}
 use lib.ListN.{length}
 use Rattle.kinds.specs.Sizes.{Who}
-use Rattle.rows.proofs.BoolLaws.{same-test}
 use Rattle.state.specs.declared.Head.{Head}
 use Rattle.state.specs.Image.{stateIn}
 use Rattle.promise.specs.Append.{Tested}
 use Rattle.promise.proofs.PromiseLaws.{ready-term, ready-ballot, ready-length}
-
--- Not below another is at least as great.
-pub not-below : (a b : ℕ) → not (ltb a b) ≡ leb b a
-not-below a b = same-test (not (ltb a b)) (leb b a) (λ h. le-leb b a (ltb-false a b (not-true (ltb a b) h))) (λ h. rw (le-ltb a b (leb-true b a h)))
 
 module _ (w : Who) (h : Head) (l : List ℕ) (t : Tested w h l) where
   -- The log's length.

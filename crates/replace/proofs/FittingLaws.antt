@@ -24,12 +24,12 @@ use Rattle.state.proofs.LegalLaws.{rowsOf-length}
 use Rattle.rows.proofs.ListLaws.{bytesOf-map}
 use Rattle.rules.specs.Events.{termAt}
 use Rattle.rules.specs.Receive.{fits, replaced, taken}
-use Rattle.rows.proofs.BoolLaws.{and-first, and-second, and-either, or-either, not-both}
+use Rattle.rows.proofs.BoolLaws.{and-first, and-second, and-either, or-either, not-both, not-below}
 use Rattle.message.proofs.LegalLaws.{append-is}
 use Rattle.promise.specs.Promise.{Ready}
 use Rattle.promise.specs.Heads.{taking}
 use Rattle.promise.proofs.PromiseLaws.{ready-image, ready-legal, ready-size, ready-head, ready-who, ready-headed, ready-put}
-use Rattle.promise.proofs.AppendLaws.{not-below, tested-length, tested-ballot, tested-term}
+use Rattle.promise.proofs.AppendLaws.{tested-length, tested-ballot, tested-term}
 use Rattle.replace.proofs.TakingLaws.{taking-head, stays-rows, replaced-rows}
 use Rattle.replace.specs.Taken.{takenBy, Heard}
 use Rattle.replace.proofs.TakenLaws.{takenBy-legal}

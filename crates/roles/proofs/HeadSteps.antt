@@ -3,12 +3,12 @@ use Prim.Native.Nat.{ℕ, zero, suc}
 use mathlib.Core.Path.{_≡_, refl}
 use mathlib.Core.Bool.{Bool, true, false, not, _&&_, _||_}
 use mathlib.Core.List.{List}
-use lib.Dec.{leb, eqb}
+use lib.Dec.{leb, ltb, eqb}
 use Rattle.kinds.specs.Hubs.{all}
 use Rattle.kinds.specs.Role.{as-follower, as-candidate, as-leader}
 use Rattle.kinds.specs.Sizes.{Who, hubs-most, limit}
 use Rattle.command.specs.Words.{part}
-use Rattle.rows.proofs.BoolLaws.{and-fails}
+use Rattle.rows.proofs.BoolLaws.{and-fails, not-below}
 use Rattle.state.specs.declared.Head.{Head}
 use Rattle.state.specs.Head.{headIn, isFlag, keptHead, roleHead}
 use Rattle.state.specs.Check.{checkedHead}
@@ -29,15 +29,15 @@ unfolding checkedHead
 head-tests w l f e k r = rw (f, k, r, e)
 
 -- The tests of the kept parts' numbers.
-pub kept-tests : (h : Head) {ballot term chosen long most : ℕ} →
-    ballot ≡ h .ballot .0 →
+pub kept-tests : (h : Head) {lower short : Bool} {ballot long most : ℕ} →
     long ≡ h .length .0 →
-    term ≡ h .term .0 →
-    chosen ≡ h .chosen .0 →
+    lower ≡ ltb (h .term .0) (h .ballot .0) →
+    short ≡ ltb (h .length .0) (h .chosen .0) →
     most ≡ limit →
-    (leb ballot term && (leb chosen long && (leb long most && (not (eqb ballot 0) || eqb long 0)))) ≡ keptHead h
+    ballot ≡ h .ballot .0 →
+    (not lower && (not short && (leb long most && (not (eqb ballot 0) || eqb long 0)))) ≡ keptHead h
 unfolding keptHead
-kept-tests h b n t c m = rw (b, n, t, c, m)
+kept-tests h n t c m b = rw (n, t, c, m, b, not-below (h .term .0) (h .ballot .0), not-below (h .length .0) (h .chosen .0))
 
 -- There is no fourth role.
 pub role-other : (w : Who) (h : Head) (r : ℕ) → (r ≡ as-follower → ⊥) → (r ≡ as-candidate → ⊥) → (r ≡ as-leader → ⊥) → roleHead w r h ≡ false

@@ -16,11 +16,9 @@ pub fn is_kept_head(h: Head) -> bool
 {
     let b = h.ballot;
     let n = h.length;
-    let c = h.chosen;
-    let low = b.number();
     let long = n.number();
-    (low <= h.term.number())
-        & ((c.number() <= long) & ((long <= kinds::places()) & ((low != 0) | (long == 0))))
+    !h.term.below(b)
+        & (!n.below(h.chosen) & ((long <= kinds::places()) & ((b.number() != 0) | (long == 0))))
 }
 
 // ---- roles

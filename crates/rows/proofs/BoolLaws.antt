@@ -2,9 +2,11 @@
 use mathlib.Core.Path.{_≡_, refl, sym, subst}
 use Prim.Native.Nat.{ℕ, zero, suc}
 use native.Mathlib.Omega.{arith}
-use mathlib.Core.Bool.{Bool, true, false, cond, Bool·beq, _&&_, _||_}
+use mathlib.Core.Bool.{Bool, true, false, cond, not, Bool·beq, _&&_, _||_}
 use mathlib.Core.List.{List, [], _∷_}
 use mathlib.Core.Option.{none, some}
+use borrow.Author.Tests.{leb-true, ltb-false, le-leb, le-ltb, not-true}
+use lib.Dec.{leb, ltb}
 use lib.ListN.{getD}
 
 -- ---- tests that hold together
@@ -101,6 +103,10 @@ pub same-test : (a b : Bool) → (a ≡ true → b ≡ true) → (b ≡ true →
 same-test true b f g = sym (f refl)
 same-test false true f g = g refl
 same-test false false f g = refl
+
+-- Not below another is at least as great.
+pub not-below : (a b : ℕ) → not (ltb a b) ≡ leb b a
+not-below a b = same-test (not (ltb a b)) (leb b a) (λ h. le-leb b a (ltb-false a b (not-true (ltb a b) h))) (λ h. rw (le-ltb a b (leb-true b a h)))
 
 -- ---- what hangs on a test
 

@@ -6,7 +6,7 @@ use Rattle.roles.proofs.is_kept_head.Tie as tie
 
 as-defined : tie.Need-returns
 as-defined c =
-    kept-tests _ (c .before .before .before .before .number .ensures) (c .before .before .before .number2 .ensures) (c .before .before .number3 .ensures) (c .before .number4 .ensures) (c .places .ensures)
+    kept-tests _ (c .before .before .before .before .number .ensures) (c .before .before .before .below .ensures) (c .before .before .below2 .ensures) (c .before .places .ensures) (c .number2 .ensures)
 
 pub is-kept-head-spec : {M : Type 1} → statement M
 is-kept-head-spec =
