@@ -24,7 +24,7 @@ fn confirm(g: Caller, h: Head, from: Hub, end: Place) -> Head
     let mut next = h;
     next.confirmed[i] = end;
     let confirmed = next.confirmed;
-    next.chosen = turns::greater(h.chosen, majority::majority_place(g.size, confirmed));
+    next.chosen = heads::greater(h.chosen, majority::majority_place(g.size, confirmed));
     next
 }
 

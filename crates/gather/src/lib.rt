@@ -23,7 +23,7 @@ fn add_voter(h: Head, from: Hub, count: u32) -> Head
     let i = state::index_of(from);
     let mut next = h;
     next.voters[i] = true;
-    next.gathered = turns::greater(h.gathered, Place::of(count));
+    next.gathered = heads::greater(h.gathered, Place::of(count));
     next
 }
 
@@ -43,7 +43,7 @@ fn count_votes(g: Caller, h: Head, state: &mut [u8])
         h.gathered.number(),
         h.term,
     );
-    head::write_head(state, turns::lead(h, g.own));
+    head::write_head(state, heads::lead(h, g.own));
 }
 
 // ---- vote-yes

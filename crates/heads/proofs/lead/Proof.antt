@@ -1,10 +1,10 @@
--- `turns::lead` meets its contract: a follower of its term, made a leader. Assumes nothing.
+-- `heads::lead` meets its contract: a follower of its term, made a leader. Assumes nothing.
 use native.Mathlib.Omega.{arith}
 use borrow.Author.Needs.{needs}
 use Rattle.kinds.proofs.SizesLaws.{limit-small}
 use Rattle.promise.specs.Heads.{following, leading}
-use Rattle.turns.proofs.lead.Statement.{statement}
-use Rattle.turns.proofs.lead.Tie as tie
+use Rattle.heads.proofs.lead.Statement.{statement}
+use Rattle.heads.proofs.lead.Tie as tie
 
 -- The length does not wrap.
 fits : tie.Need-add-of

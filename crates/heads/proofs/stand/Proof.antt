@@ -1,8 +1,8 @@
--- `turns::stand` meets its contract: a follower of the next term, made a candidate with its own vote. Assumes nothing.
+-- `heads::stand` meets its contract: a follower of the next term, made a candidate with its own vote. Assumes nothing.
 use borrow.Author.Needs.{needs}
 use Rattle.promise.specs.Heads.{following, standing}
-use Rattle.turns.proofs.stand.Statement.{statement}
-use Rattle.turns.proofs.stand.Tie as tie
+use Rattle.heads.proofs.stand.Statement.{statement}
+use Rattle.heads.proofs.stand.Tie as tie
 
 itself-alone : tie.Need-returns
 unfolding standing following

@@ -1,4 +1,4 @@
--- `replace::put_entries` meets its contract. The loop's invariant: the lines from `from` on, `left` of them, still go into the rows from `to` on.
+-- `fill::put_entries` meets its contract. The loop's invariant: the lines from `from` on, `left` of them, still go into the rows from `to` on.
 -- The measure is `left`. Assumes nothing.
 use Prim.Native.Nat.{_+_, _*_, _≤_}
 use mathlib.Core.Path.{_≡_, refl, sym, _∙_}
@@ -11,9 +11,9 @@ use Rattle.message.specs.Walk.{entriesFrom, Lie}
 use Rattle.rows.specs.Rows.{bytesOf}
 use Rattle.state.specs.Image.{logRow}
 use Rattle.entries.proofs.WalkLaws.{lie-on, lie-next}
-use Rattle.replace.proofs.EntriesLaws.{put-none, put-next}
-use Rattle.replace.proofs.put_entries.Statement.{statement}
-use Rattle.replace.proofs.put_entries.Tie as tie
+use Rattle.fill.proofs.EntriesLaws.{put-none, put-next}
+use Rattle.fill.proofs.put_entries.Statement.{statement}
+use Rattle.fill.proofs.put_entries.Tie as tie
 
 abbrev Inv-loop : tie.InvT-loop
 Inv-loop state₀ row count lines table to₀ from₀ left₀ state to from left =

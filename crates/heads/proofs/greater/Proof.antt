@@ -1,11 +1,11 @@
--- `turns::greater` meets its contract. Assumes nothing.
+-- `heads::greater` meets its contract. Assumes nothing.
 use mathlib.Core.Path.{sym, _∙_, ap}
 use native.Mathlib.Omega.{arith}
 use borrow.Author.Needs.{needs}
 use borrow.Author.Tests.{ltb-true, ltb-false}
 use Rattle.kinds.specs.Of.{place}
-use Rattle.turns.proofs.greater.Statement.{statement}
-use Rattle.turns.proofs.greater.Tie as tie
+use Rattle.heads.proofs.greater.Statement.{statement}
+use Rattle.heads.proofs.greater.Tie as tie
 
 -- The second.
 second : tie.Need-returns

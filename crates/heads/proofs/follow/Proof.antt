@@ -1,8 +1,8 @@
--- `turns::follow` meets its contract: the lost parts hold nothing. Assumes nothing.
+-- `heads::follow` meets its contract: the lost parts hold nothing. Assumes nothing.
 use borrow.Author.Needs.{needs}
 use Rattle.promise.specs.Heads.{following}
-use Rattle.turns.proofs.follow.Statement.{statement}
-use Rattle.turns.proofs.follow.Tie as tie
+use Rattle.heads.proofs.follow.Statement.{statement}
+use Rattle.heads.proofs.follow.Tie as tie
 
 nothing-held : tie.Need-returns
 unfolding following
