@@ -15,6 +15,7 @@ use Rattle.command.specs.Entry.{Entry, legalEntries}
 use Rattle.command.proofs.EntryLaws.{legalEntries-wider}
 use Rattle.message.specs.Message.{entriesOf, vote-request, vote-yes, vote-no, append-no}
 use Rattle.message.specs.Legal.{legalTo, legalBody}
+use Rattle.message.specs.Answer.{saidWith, manyIn}
 use Rattle.message.specs.declared.Body.{Body}
 use Rattle.message.specs.declared.Body.the-variants.{VoteYes, VoteNo, AppendYes, AppendNo}
 use Rattle.state.specs.declared.Head.{Head}
@@ -31,7 +32,7 @@ use Rattle.promise.specs.Append.{Tested}
 use Rattle.promise.proofs.PromiseLaws.{ready-who}
 use Rattle.promise.proofs.AppendLaws.{tested-length, tested-ballot}
 use Rattle.say.specs.Said.{Said, Answering}
-use Rattle.say.specs.Spoken.{bodyWith, counts, Speaks}
+use Rattle.say.specs.Spoken.{Speaks}
 use Rattle.say.proofs.SpokenLaws.{tested-kept, tested-within}
 
 -- ---- the answer to a vote-request
@@ -82,8 +83,8 @@ module _ (w : Who) (l : List ℕ) (to : ℕ) (out : List ℕ) (a : Answering w l
 
   -- Any body, if it is legal.
   may-say :
-      (body : Body) (after : ℕ) → after ≤ limit → counts body ≡ length (entriesOf (bodyWith body (drop after log)))
-      → legalTo to (bodyWith body (drop after log)) ≡ true → legalBody (stateIn l .kept .term) (bodyWith body (drop after log)) ≡ true
+      (body : Body) (after : ℕ) → after ≤ limit → manyIn body ≡ length (entriesOf (saidWith body (drop after log)))
+      → legalTo to (saidWith body (drop after log)) ≡ true → legalBody (stateIn l .kept .term) (saidWith body (drop after log)) ≡ true
       → Speaks w h l to body after out
   may-say body after within counted t b =
       let s = stateIn l in
@@ -91,7 +92,7 @@ module _ (w : Who) (l : List ℕ) (to : ℕ) (out : List ℕ) (a : Answering w l
         tested = tested;
         place = within;
         counted = counted;
-        legal = says-legal w (ready-who w l (a .ready)) s s to (bodyWith body (drop after log)) refl (a .risen) (tested-kept w h l tested .term) t b .legal;
+        legal = says-legal w (ready-who w l (a .ready)) s s to (saidWith body (drop after log)) refl (a .risen) (tested-kept w h l tested .term) t b .legal;
         room = a .room;
       }
 

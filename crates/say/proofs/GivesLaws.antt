@@ -1,5 +1,5 @@
 -- Laws of what an event that may write a message returns and leaves, and of who leads. Assumes nothing.
-use Prim.Native.Nat.{ℕ, _*_}
+use Prim.Native.Nat.{ℕ}
 use native.Mathlib.Omega.{arith}
 use mathlib.Core.Path.{_≡_, refl, sym, _∙_, ap}
 use mathlib.Core.Bool.{true, false}
@@ -7,6 +7,9 @@ use mathlib.Core.List.{List}
 use mathlib.Core.Option.{some}
 use borrow.Author.Tests.{ne-eqb}
 use Rattle.kinds.specs.Sizes.{Who}
+use Rattle.kinds.specs.Role.{as-leader}
+use Rattle.kinds.specs.Packed.{packed}
+use Rattle.kinds.proofs.PackedLaws.{packed-alone}
 use Rattle.message.specs.Message.{Message}
 use Rattle.state.specs.declared.Head.{Head}
 use Rattle.state.specs.State.{Kept, Lost, follower, candidate, leader, State}
@@ -25,18 +28,19 @@ use Rattle.say.specs.Said.{Said}
 -- A refusal leaves every byte.
 pub refused-gives : {n : Next} (s : State) (l : List ℕ) {out : List ℕ} (k : ℕ) → n ≡ refuses s k → (k ≡ done → ⊥) → Gives n l out k l out
 unfolding leftBy written over
-refused-gives s l k e h = rw e (record { returned = omega arith; state-left = rw (ne-eqb k done h); output-left = refl })
+refused-gives s l k e h = rw e (record { returned = sym (packed-alone k); state-left = rw (ne-eqb k done h); output-left = refl })
 
 -- An event that takes effect and writes a message.
 pub said-gives :
-    {n : Next} (t : State) (m : Message) {l l′ out out′ : List ℕ} {r : ℕ} → n ≡ goes t (some m) → l′ ≡ image t → Said m out r out′
-    → Gives n l out (r * 4_294_967_296) l′ out′
+    {n : Next} (t : State) (m : Message) {l l′ out out′ : List ℕ} {bytes r : ℕ} → n ≡ goes t (some m) → l′ ≡ image t → Said m out bytes out′
+    → r ≡ packed done bytes → Gives n l out r l′ out′
 unfolding leftBy written
-said-gives t m e left said = rw e (record { returned = omega (arith, said .returned); state-left = left; output-left = said .output-left })
+said-gives t m e left said r= =
+    rw e (record { returned = r= ∙ ap (packed done) (said .returned); state-left = left; output-left = said .output-left })
 
 -- ---- who leads
 
-leader-is : (k : Kept) (l : Lost) → roleOf l ≡ 2 → isLeader (record { kept = k; lost = l }) ≡ true
+leader-is : (k : Kept) (l : Lost) → roleOf l ≡ as-leader → isLeader (record { kept = k; lost = l }) ≡ true
 unfolding isLeader roleOf
 leader-is k follower h = absurd (omega arith)
 leader-is k (candidate voters gathered) h = absurd (omega arith)
@@ -47,9 +51,9 @@ module _ (w : Who) (h : Head) (l : List ℕ) (t : Tested w h l) where
   same-role = ap (λ (x : Head). x .role) (t .head) ∙ ready-role w l (t .ready)
 
   -- A leader's head: a leader.
-  pub tested-leader : h .role ≡ 2 → isLeader (stateIn l) ≡ true
+  pub tested-leader : h .role ≡ as-leader → isLeader (stateIn l) ≡ true
   tested-leader role = leader-is (stateIn l .kept) (stateIn l .lost) (sym same-role ∙ role)
 
   -- Another head: another role.
-  pub tested-other : (h .role ≡ 2 → ⊥) → isLeader (stateIn l) ≡ false
+  pub tested-other : (h .role ≡ as-leader → ⊥) → isLeader (stateIn l) ≡ false
   tested-other role = not-leading w l (t .ready) (λ f. role (ap (λ (x : Head). x .role) (t .head) ∙ f))

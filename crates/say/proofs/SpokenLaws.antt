@@ -1,6 +1,6 @@
 -- Laws of any message of a hub: its entries where they lie in the state's bytes, what is handed over to be written, and what is written then.
 -- Assumes nothing.
-use Prim.Native.Nat.{ℕ, _+_, _-_, _*_, _≤_}
+use Prim.Native.Nat.{ℕ, _+_, _-_, _*_, _≤_, _<_}
 use native.Mathlib.Omega.{arith}
 use native.Mathlib.Nat.{zero-add}
 use mathlib.Core.Path.{_≡_, refl, sym, _∙_, ap}
@@ -12,21 +12,22 @@ use borrow.Rule.Slice.PartAt.{part-to-end}
 use Rattle.kinds.specs.declared.Hub.{Hub}
 use Rattle.kinds.specs.declared.Term.{Term}
 use Rattle.kinds.specs.Sizes.{Who, limit, text-room, row-size}
+use Rattle.kinds.specs.Packed.{half}
+use Rattle.kinds.proofs.SizesLaws.{room-small}
 use Rattle.command.specs.Words.{wordAt}
 use Rattle.command.specs.Entry.{Entry}
-use Rattle.message.specs.Message.{Message, entriesOf, vote-request, vote-yes, vote-no, append, append-yes, append-no}
+use Rattle.message.specs.Message.{Message, entriesOf, vote-yes, append}
 use Rattle.message.specs.Legal.{legalMessage}
-use Rattle.message.specs.Fields.{countIn, bodyOf, messageOf}
 use Rattle.message.specs.Text.{text}
 use Rattle.message.specs.Rows.{rowEntries}
-use Rattle.message.specs.Write.{Puts, countOf, messageWith}
+use Rattle.message.specs.Answer.{saidWith, manyIn}
+use Rattle.message.specs.Write.{Puts, messageWith}
 use Rattle.message.specs.declared.Body.{Body}
 use Rattle.message.specs.declared.Body.the-variants.{VoteRequest, VoteYes, VoteNo, Append, AppendYes, AppendNo}
 use Rattle.message.specs.declared.Fields.{Fields}
 use Rattle.message.proofs.ReadLaws.{text-most}
 use Rattle.text.specs.Wrote.{Wrote}
 use Rattle.state.specs.declared.Head.{Head}
-use Rattle.state.specs.State.{State}
 use Rattle.rows.specs.Rows.{entryOf, rowsIn}
 use Rattle.state.specs.Image.{head-size, state-size, keptIn, stateIn}
 use Rattle.rows.proofs.RowLaws.{rowsIn-length, rowsIn-drop}
@@ -37,7 +38,7 @@ use Rattle.promise.specs.Append.{Tested}
 use Rattle.promise.proofs.PromiseLaws.{ready-legal, ready-size}
 use Rattle.promise.proofs.AppendLaws.{tested-length, tested-term}
 use Rattle.say.specs.Said.{Said}
-use Rattle.say.specs.Spoken.{bodyWith, counts, spoken, Speaks}
+use Rattle.say.specs.Spoken.{spoken, Speaks}
 
 -- ---- bytes that are tested
 
@@ -67,7 +68,7 @@ log-after l p =
 -- ---- a body with its entries
 
 -- It has no more than there are.
-body-most : (body : Body) (es : List Entry) → length (entriesOf (bodyWith body es)) ≤ length es
+body-most : (body : Body) (es : List Entry) → length (entriesOf (saidWith body es)) ≤ length es
 unfolding entriesOf
 body-most (VoteRequest last ballot) es = omega arith
 body-most (VoteYes last ballot count) es = omega arith
@@ -79,13 +80,14 @@ body-most (AppendNo n) es = omega arith
 -- The rows from a place on hold those that it counts.
 body-rows :
     (l : List ℕ) (p : ℕ) (body : Body)
-    → (let es = entriesOf (bodyWith body (drop p (stateIn l .kept .log))) in
-    counts body ≡ length es → rowEntries (counts body) (drop (head-size + p * row-size) l) ≡ es)
-unfolding entriesOf rowsIn
+    → (let es = drop p (stateIn l .kept .log) in
+    manyIn body ≡ length (entriesOf (saidWith body es))
+    → saidWith body (rowEntries (manyIn body) (drop (head-size + p * row-size) l)) ≡ saidWith body es)
+unfolding entriesOf
 body-rows l p (VoteRequest last ballot) e = refl
-body-rows l p (VoteYes last ballot count) e = rw e (log-after l p)
+body-rows l p (VoteYes last ballot count) e = ap (vote-yes (last .0) (ballot .0)) (rw e (log-after l p))
 body-rows l p VoteNo e = refl
-body-rows l p (Append prev prevterm chosen count) e = rw e (log-after l p)
+body-rows l p (Append prev prevterm chosen count) e = ap (append (prev .0) (prevterm .0) (chosen .0)) (rw e (log-after l p))
 body-rows l p (AppendYes end) e = refl
 body-rows l p (AppendNo n) e = refl
 
@@ -94,30 +96,6 @@ body-rows l p (AppendNo n) e = refl
 -- Those of a hub's message.
 abbrev pub fieldsFor : Term → Hub → Hub → Body → Fields
 fieldsFor t from to body = record { term = t; from = from; to = to; body = body }
-
-module _ (t : Term) (from to : Hub) where
-  -- They count what the body counts.
-  fields-count : (body : Body) → countOf (fieldsFor t from to body) ≡ counts body
-  unfolding countOf countIn
-  fields-count (VoteRequest last ballot) = refl
-  fields-count (VoteYes last ballot count) = refl
-  fields-count VoteNo = refl
-  fields-count (Append prev prevterm chosen count) = refl
-  fields-count (AppendYes end) = refl
-  fields-count (AppendNo n) = refl
-
-  -- With the entries of rows they are what the hub says.
-  fields-say :
-      (w : Who) (s : State) (rows : List ℕ) (es : List Entry) → t .0 ≡ s .kept .term → from .0 ≡ w .own → (body : Body)
-      → rowEntries (counts body) rows ≡ entriesOf (bodyWith body es)
-      → messageWith (fieldsFor t from to body) rows ≡ says w s (to .0) (bodyWith body es)
-  unfolding messageWith countOf countIn messageOf bodyOf entriesOf says
-  fields-say w s rows es a b (VoteRequest last ballot) e = λ i. record { term = a i; from = b i; to = to .0; body = vote-request (last .0) (ballot .0) }
-  fields-say w s rows es a b (VoteYes last ballot count) e = λ i. record { term = a i; from = b i; to = to .0; body = vote-yes (last .0) (ballot .0) (e i) }
-  fields-say w s rows es a b VoteNo e = λ i. record { term = a i; from = b i; to = to .0; body = vote-no }
-  fields-say w s rows es a b (Append prev prevterm chosen count) e = λ i. record { term = a i; from = b i; to = to .0; body = append (prev .0) (prevterm .0) (chosen .0) (e i) }
-  fields-say w s rows es a b (AppendYes end) e = λ i. record { term = a i; from = b i; to = to .0; body = append-yes (end .0) }
-  fields-say w s rows es a b (AppendNo n) e = λ i. record { term = a i; from = b i; to = to .0; body = append-no (n .0) }
 
 -- ---- what is written
 
@@ -131,9 +109,9 @@ wrote-said {m} {out} legal room wrote =
       output-left = wrote .text ∙ simp zero-add at (sets-eq (text m) out 0 (omega (arith, text-most m legal)));
     }
 
--- How many bytes a legal message has at most.
-pub said-most : {m : Message} {out out′ : List ℕ} {r : ℕ} → legalMessage m ≡ true → Said m out r out′ → r ≤ text-room
-said-most {m} legal said = omega (arith, said .returned, text-most m legal)
+-- The bytes of a legal message are counted in half of what is returned.
+pub said-small : {m : Message} {out out′ : List ℕ} {r : ℕ} → legalMessage m ≡ true → Said m out r out′ → r < half
+said-small {m} legal said = omega (arith, said .returned, text-most m legal, room-small)
 
 module _ (w : Who) (h : Head) (l : List ℕ) (to : Hub) (body : Body) (after : ℕ) (out : List ℕ) (k : Speaks w h l (to .0) body after out) where
   -- The row of the place lies within the bytes.
@@ -150,9 +128,10 @@ module _ (w : Who) (h : Head) (l : List ℕ) (to : Hub) (body : Body) (after : �
     lent-is = part-to-end l row ∙ ap (λ (n : ℕ). drop n l) at
 
     whole : messageWith (fieldsFor (h .term) from to body) lent ≡ spoken w (stateIn l) (to .0) body after
+    unfolding messageWith says
     whole =
-        fields-say (h .term) from to w (stateIn l) lent (drop after (stateIn l .kept .log)) (tested-term w h l (k .tested)) own body
-        (rw lent-is (body-rows l after body (k .counted)))
+        let same = ap (λ (rows : List ℕ). saidWith body (rowEntries (manyIn body) rows)) lent-is ∙ body-rows l after body (k .counted) in
+        λ i. record { term = tested-term w h l (k .tested) i; from = own i; to = to .0; body = same i }
 
     -- What is handed over may be written.
     pub spoken-puts : Puts (fieldsFor (h .term) from to body) lent out
@@ -164,7 +143,6 @@ module _ (w : Who) (h : Head) (l : List ℕ) (to : Hub) (body : Body) (after : �
           held =
               omega (
                 arith,
-                fields-count (h .term) from to body,
                 k .counted,
                 body-most body (drop after log),
                 length-drop after log,

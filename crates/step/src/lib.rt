@@ -13,13 +13,13 @@ fn act(g: Caller, event: u32, a: u32, b: u32, state: &mut [u8], input: &[u8], ou
     ensures { λ r. ⌜ Answers (stepOf (call (g .size) (g .own .0) event a b (now (state .entry)) (now (input .entry)) (now (out .entry)))) r (now (state .exit)) (now (out .exit)) ⌝ }
 {
     if event == kinds::START {
-        return say::start_at(g, state, out);
+        return start::start_at(g, state, out);
     }
     if event == kinds::PROPOSE {
         return propose::propose_at(g, state, input) as u64;
     }
     if event == kinds::SEND {
-        return say::send_at(g, state, a, b, out);
+        return send::send_at(g, state, Hub::of(a), Place::of(b), out);
     }
     if event == kinds::RESTART {
         turns::restart_in(state);

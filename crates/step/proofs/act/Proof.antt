@@ -5,6 +5,7 @@ use borrow.Author.Needs.{needs}
 use Rattle.promise.specs.Promise.{call}
 use Rattle.promise.proofs.StepLaws.{step-ready, step-kept, step-room, step-fifth, step-start, step-propose, step-send, step-restart}
 use Rattle.receive.proofs.OutcomeLaws.{step-heard}
+use Rattle.step.proofs.EdgeLaws.{send-numbers}
 use Rattle.step.proofs.act.Statement.{statement}
 use Rattle.step.proofs.act.Tie as tie
 
@@ -29,12 +30,17 @@ proposed c = step-propose _ (c .before .before .before .before .before .before .
 -- The state is ready for a send, and the output has its room.
 send-ready : tie.Need-send-at-requires
 send-ready c κs =
-    let passed = c .before .before .before .before .before .before .before .before .pre in
-    (step-ready (call _ _ _ 0 0 _ [] _) passed (λ e. omega (arith, e, c .before .before .if3 .taken)), step-room (call _ _ _ 0 0 _ [] _) passed)
+    let at-event = c .before .before .before .before in
+    let passed = at-event .before .before .before .before .before .before .pre in
+    (step-ready (call _ _ _ 0 0 _ [] _) passed (λ e. omega (arith, e, at-event .if3 .taken)), step-room (call _ _ _ 0 0 _ [] _) passed)
 
--- Send.
+-- Send: peer a, from prev b.
 sent : tie.Need-returns-3
-sent c = step-send _ (c .before .before .before .before .before .before .before .before .before .before .before .pre) (c .before .before .before .before .before .if3 .taken) (c .before .before .send-at .ensures)
+sent c =
+    let at-of = c .before .before .before .before .before in
+    let at-event = at-of .before .before in
+    step-send _ (at-event .before .before .before .before .before .before .pre) (at-event .if3 .taken)
+    (send-numbers _ _ _ _ (at-of .of .ensures) (c .before .before .before .before .of2 .ensures) (c .before .before .send-at .ensures))
 
 -- The kept parts are legal for a restart.
 restart-kept : tie.Need-restart-in-requires
@@ -69,6 +75,8 @@ act-spec =
     (λ c. search needs)
     (λ c. search needs)
     proposed
+    (λ c κs. search needs)
+    (λ c κs. search needs)
     send-ready
     (λ c. search needs)
     (λ c. search needs)

@@ -1,10 +1,10 @@
--- `say::send_after` meets its contract: an append with the term at prev, the chosen count and the entries after prev. Assumes nothing.
+-- `send::send_after` meets its contract: an append with the term at prev, the chosen count and the entries after prev. Assumes nothing.
 use native.Mathlib.Omega.{arith}
 use borrow.Author.Needs.{needs}
 use Rattle.promise.proofs.AppendLaws.{tested-length}
-use Rattle.say.proofs.SendLaws.{may-send, said-sends}
-use Rattle.say.proofs.send_after.Statement.{statement}
-use Rattle.say.proofs.send_after.Tie as tie
+use Rattle.send.proofs.SendLaws.{may-send, said-sends}
+use Rattle.send.proofs.send_after.Statement.{statement}
+use Rattle.send.proofs.send_after.Tie as tie
 
 -- Prev is a place of the log.
 in-log : tie.Need-term-before-requires

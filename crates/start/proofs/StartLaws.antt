@@ -1,5 +1,5 @@
 -- Laws of the event start: each of its outcomes by what the code tests, and the request that is written. Assumes nothing.
-use Prim.Native.Nat.{ℕ, _*_, _≤_}
+use Prim.Native.Nat.{ℕ, _≤_}
 use native.Mathlib.Omega.{arith}
 use mathlib.Core.Path.{_≡_, refl, sym, _∙_}
 use mathlib.Core.List.{List}
@@ -9,12 +9,14 @@ use lib.ListN.{length}
 use Rattle.kinds.specs.declared.Hub.{Hub}
 use Rattle.kinds.specs.Of.{hub}
 use Rattle.kinds.specs.Sizes.{Who, term-most, text-room}
+use Rattle.kinds.specs.Role.{as-leader}
+use Rattle.kinds.specs.Packed.{packed}
 use Rattle.message.specs.Message.{entriesOf, vote-request}
 use Rattle.message.specs.declared.Body.the-variants.{VoteRequest}
 use Rattle.state.specs.declared.Head.{Head}
 use Rattle.state.specs.Image.{image, stateIn}
 use Rattle.state.specs.Head.{headIn}
-use Rattle.rules.specs.Outcome.{goes, wrong-role, no-term-left}
+use Rattle.rules.specs.Outcome.{done, goes, wrong-role, no-term-left}
 use Rattle.rules.specs.Events.{says, started, asks, start}
 use Rattle.rules.proofs.Fair.{Sound}
 use Rattle.rules.proofs.EventsLaws.{start-fair}
@@ -23,10 +25,11 @@ use Rattle.promise.specs.Append.{Tested}
 use Rattle.promise.proofs.PromiseLaws.{ready-legal, ready-next, ready-who}
 use Rattle.promise.proofs.LostLaws.{start-goes}
 use Rattle.promise.proofs.AppendLaws.{tested-length, tested-ballot, tested-term}
 use Rattle.say.specs.Said.{Said}
-use Rattle.say.specs.Spoken.{Speaks, Asking}
+use Rattle.say.specs.Spoken.{Speaks}
+use Rattle.start.specs.Asking.{Asking}
 use Rattle.say.proofs.SpokenLaws.{tested-kept, tested-within}
 use Rattle.say.proofs.GivesLaws.{refused-gives, said-gives, tested-leader, tested-other}
 
 -- ---- a request to all, with the log's length and the ballot
 
@@ -57,11 +60,11 @@ module _ (w : Who) (h : Head) (l out : List ℕ) (a : Asking w h l out) {to : Hu
 
 module _ (w : Who) (h : Head) (l : List ℕ) (t : Tested w h l) where
   -- A leader.
-  pub start-leader : {out : List ℕ} → h .role ≡ 2 → Gives (start w (stateIn l)) l out wrong-role l out
+  pub start-leader : {out : List ℕ} → h .role ≡ as-leader → Gives (start w (stateIn l)) l out wrong-role l out
   unfolding start
   start-leader role = refused-gives (stateIn l) l wrong-role (rw (tested-leader w h l t role)) (λ z. omega arith)
 
-  module _ (role : h .role ≡ 2 → ⊥) where
+  module _ (role : h .role ≡ as-leader → ⊥) where
     -- The last term.
     pub start-last : {out : List ℕ} → h .term .0 ≡ term-most → Gives (start w (stateIn l)) l out no-term-left l out
     unfolding start
@@ -103,5 +106,6 @@ module _ (w : Who) (h : Head) (l : List ℕ) (k : Starts w h l) where
         }
 
     -- It is written.
-    pub start-done : {n : ℕ} {out out′ : List ℕ} → Said (asks w (stateIn l′)) out n out′ → Gives (start w (stateIn l)) l out (n * 4_294_967_296) l′ out′
+    pub start-done :
+        {n r : ℕ} {out out′ : List ℕ} → Said (asks w (stateIn l′)) out n out′ → r ≡ packed done n → Gives (start w (stateIn l)) l out r l′ out′
     start-done said = said-gives (started w (stateIn l)) (asks w (started w (stateIn l))) start-is left (rw (risen .1) at said)

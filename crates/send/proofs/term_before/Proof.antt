@@ -1,11 +1,11 @@
--- `say::term_before` meets its contract: there is no entry at place 0, and at another place it is looked up. Assumes nothing.
+-- `send::term_before` meets its contract: there is no entry at place 0, and at another place it is looked up. Assumes nothing.
 use mathlib.Core.Path.{sym, _∙_, ap}
 use native.Mathlib.Omega.{arith}
 use borrow.Author.Needs.{needs}
 use Rattle.kinds.specs.Of.{term}
-use Rattle.say.proofs.SendLaws.{termAt-none}
-use Rattle.say.proofs.term_before.Statement.{statement}
-use Rattle.say.proofs.term_before.Tie as tie
+use Rattle.send.proofs.SendLaws.{termAt-none}
+use Rattle.send.proofs.term_before.Statement.{statement}
+use Rattle.send.proofs.term_before.Tie as tie
 
 -- Place 0.
 none-there : tie.Need-returns

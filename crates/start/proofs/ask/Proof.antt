@@ -1,8 +1,8 @@
--- `say::ask` meets its contract: a request of the head's length and ballot to hub 0, which is all. Assumes nothing.
+-- `start::ask` meets its contract: a request of the head's length and ballot to hub 0, which is all. Assumes nothing.
 use borrow.Author.Needs.{needs}
-use Rattle.say.proofs.StartLaws.{may-ask, said-asks}
-use Rattle.say.proofs.ask.Statement.{statement}
-use Rattle.say.proofs.ask.Tie as tie
+use Rattle.start.proofs.StartLaws.{may-ask, said-asks}
+use Rattle.start.proofs.ask.Statement.{statement}
+use Rattle.start.proofs.ask.Tie as tie
 
 -- The request may be written.
 may-speak : tie.Need-speak-requires

@@ -1,13 +1,11 @@
--- `say::start_at` meets its contract: each `return` is one outcome of the event. Assumes nothing.
+-- `start::start_at` meets its contract: each `return` is one outcome of the event. Assumes nothing.
 use mathlib.Core.Path.{sym, _∙_}
-use native.Mathlib.Omega.{arith}
 use borrow.Author.Needs.{needs}
-use Rattle.kinds.specs.Sizes.{text-room}
 use Rattle.promise.proofs.PromiseLaws.{ready-long}
-use Rattle.say.proofs.SpokenLaws.{said-most}
-use Rattle.say.proofs.StartLaws.{start-leader, start-last, may-start, start-ready, start-asking, start-done}
-use Rattle.say.proofs.start_at.Statement.{statement}
-use Rattle.say.proofs.start_at.Tie as tie
+use Rattle.say.proofs.SpokenLaws.{said-small}
+use Rattle.start.proofs.StartLaws.{start-leader, start-last, may-start, start-ready, start-asking, start-done}
+use Rattle.start.proofs.start_at.Statement.{statement}
+use Rattle.start.proofs.start_at.Tie as tie
 
 -- There is a head.
 head-there : tie.Need-read-head-requires
@@ -38,17 +36,19 @@ may-ask c κs =
     start-asking _ _ _ (may-rise (at-start-in .before) (at-start-in .start-in .lifetimes)) (at-start-in .start-in .ensures) (c .before .before .read-head2 .ensures) (c .before .before .before .before .before .before .before .before .before .before .before .before .before .before .before .before .pre .1)
 
 -- Its bytes are counted in the upper half.
-few : tie.Need-mul-result
-unfolding text-room
-few c =
+few : tie.Need-packed-requires
+few c κs =
     let at-ask = c .before .before in
-    omega (arith, said-most (may-ask (at-ask .before) (at-ask .ask .lifetimes) .legal) (at-ask .ask .ensures))
+    said-small (may-ask (at-ask .before) (at-ask .ask .lifetimes) .legal) (at-ask .ask .ensures)
 
 -- A candidate of the next term, and the request.
 asked : tie.Need-returns-3
 asked c =
-    let at-start-in = c .before .before .before .before .before .before .before .before .before in
-    start-done _ _ _ (may-rise (at-start-in .before) (at-start-in .start-in .lifetimes)) (at-start-in .start-in .ensures) (c .before .before .ask .ensures)
+    let at-ask = c .before .before .before in
+    let at-start-in = at-ask .before .before .before .before .before .before .before in
+    start-done _ _ _ (may-rise (at-start-in .before) (at-start-in .start-in .lifetimes)) (at-start-in .start-in .ensures) (at-ask .ask .ensures) (c .packed .ensures)
 
 pub start-at-spec : {M : Type 1} → statement M
-start-at-spec = tie.close (tie.spec head-there (λ c. search needs) leads (λ c κs. search needs) (λ c. search needs) last may-rise head-again may-ask few (λ c. search needs) (λ c. search needs) asked)
+start-at-spec =
+    tie.close
+    (tie.spec head-there (λ c. search needs) (λ c. search needs) leads (λ c κs. search needs) (λ c. search needs) (λ c. search needs) last may-rise head-again may-ask few (λ c. search needs) (λ c. search needs) asked)
