@@ -1,4 +1,3 @@
-pub mod FieldsLaws
+pub mod ReadLaws
 pub mod ReplyLaws
-pub mod RuleLaws
 pub mod OutcomeLaws

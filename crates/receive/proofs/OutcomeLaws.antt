@@ -1,83 +1,39 @@
--- Laws of the outcomes: which one a message comes to by what the code tests, what holds where it is handed on, and what its event returns and leaves.
--- Assumes nothing.
-use Prim.Native.Nat.{ℕ, _+_, _*_, _≤_, _<_}
+-- Laws of the outcomes of the whole event: which one a text comes to by what the code tests, and what is returned and left. Assumes nothing.
+use Prim.Native.Nat.{ℕ, _≤_, _<_}
 use native.Mathlib.Omega.{arith}
-use mathlib.Core.Path.{_≡_, refl, sym, _∙_, ap, subst}
+use mathlib.Core.Path.{_≡_, refl, sym, _∙_}
 use mathlib.Core.Bool.{true, false}
 use mathlib.Core.List.{List}
 use mathlib.Core.Option.{Option, none, some}
-use borrow.Author.Tests.{ne-eqb, ltb-true}
-use lib.Dec.{ltb}
-use lib.ListN.{length, drop}
+use lib.ListN.{length}
 use Rattle.kinds.specs.Sizes.{Who, text-room}
+use Rattle.kinds.specs.Event.{receive-number}
+use Rattle.kinds.specs.Packed.{half, packed}
+use Rattle.kinds.proofs.PackedLaws.{packed-alone}
+use Rattle.kinds.proofs.SizesLaws.{room-small}
 use Rattle.message.specs.Message.{Message}
 use Rattle.message.specs.Text.{read}
 use Rattle.message.specs.declared.Fields.{Fields}
 use Rattle.message.proofs.ReadLaws.{text-most}
-use Rattle.state.specs.declared.Head.{Head}
 use Rattle.state.specs.State.{State}
-use Rattle.state.specs.Legal.{legalState}
-use Rattle.state.specs.Head.{headOf}
-use Rattle.state.specs.Image.{image, stateIn}
-use Rattle.rules.specs.Outcome.{Next, done, refuses, bad-message, not-addressed, stale, contradicting, nothing-new}
-use Rattle.rules.specs.Events.{withTerm}
-use Rattle.rules.specs.Receive.{Effect, idle, effect, rule, isMisaddressed, isStale, staleReply, contradicts, raised, afterRaise, atOwnTerm, receive}
+use Rattle.state.specs.Image.{stateIn}
+use Rattle.rules.specs.Outcome.{done, bad-message, not-addressed, stale}
+use Rattle.rules.specs.Receive.{isMisaddressed, isStale, staleReply, receive}
 use Rattle.rules.specs.Step.{Call, over, written, refusal, receiving, stepOf}
-use Rattle.rules.proofs.LegalLaws.{IsMessage, legalMessage-is}
-use Rattle.rules.proofs.ReceiveLaws.{stale-term, own-term, raised-agrees, receive-fair}
+use Rattle.rules.proofs.ReceiveLaws.{stale-term, receive-fair}
 use Rattle.rules.specs.Theorems.{Says}
-use Rattle.promise.specs.Promise.{Answers, Ready, Raises, leftBy, Gives, ruledBy, saidBy}
-use Rattle.promise.proofs.PromiseLaws.{ready-legal, ready-next, ready-head, ready-term, ready-who, gives-answers}
-use Rattle.promise.proofs.LostLaws.{raised-legal}
+use Rattle.promise.specs.Promise.{Answers, leftBy, Gives}
+use Rattle.promise.proofs.PromiseLaws.{ready-legal, ready-who, gives-answers}
 use Rattle.promise.specs.Gate.{gate}
 use Rattle.promise.proofs.StepLaws.{step-receive}
 use Rattle.say.specs.Said.{Answering}
-use Rattle.receive.specs.declared.Did.{Did}
-use Rattle.receive.specs.declared.Told.{Told}
-use Rattle.receive.specs.Heard.{bodyIn, messageIn, heard, didBy, toldBy, Comes, Replied, Obeyed, Receives, Addressed, Obeys}
-use Rattle.receive.proofs.FieldsLaws.{Stands}
-use Rattle.receive.proofs.ReplyLaws.{message-legal, may-answer}
-
--- An outcome, and how many bytes were written.
-abbrev told : ℕ → ℕ → Told
-told outcome bytes = record { outcome = outcome; bytes = bytes }
-
--- ---- what an event comes to
-
--- A refusal that writes nothing leaves every byte.
-refused-comes : {n : Next} (s : State) (l out : List ℕ) (k : ℕ) → n ≡ refuses s k → (k ≡ done → ⊥) → Comes n l out (told k 0) l out
-unfolding leftBy written over
-refused-comes s l out k e h = rw e (record { outcome = refl; bytes = refl; state-left = rw (ne-eqb k done h); output-left = refl })
-
--- What is told of a rule, by what it did.
-told-is : {d e : Did} {t : Told} (k : ℕ) → t ≡ toldBy d k → d ≡ e → (t .outcome ≡ toldBy e k .outcome) × (t .bytes ≡ toldBy e k .bytes)
-told-is k told did =
-    let t = told ∙ ap (λ (x : Did). toldBy x k) did in
-    (ap (λ (x : Told). x .outcome) t, ap (λ (x : Told). x .bytes) t)
-
--- After a higher term: outcome 0, whatever the rule did.
-raised-comes :
-    (r : State) (e : Effect) {d : Did} {t : Told} {l l1 l′ out out′ : List ℕ} → l1 ≡ image r → Obeyed e l1 out d l′ out′ → t ≡ toldBy d done
-    → Comes (afterRaise r e) l out t l′ out′
-unfolding afterRaise didBy ruledBy saidBy leftBy written
-raised-comes r idle el o told =
-    let t = told-is done told (o .returned) in
-    record { outcome = t .0; bytes = t .1; state-left = o .state-left ∙ el; output-left = o .output-left }
-raised-comes r (effect next message) el o told =
-    let t = told-is done told (o .returned) in
-    record { outcome = t .0; bytes = t .1; state-left = o .state-left; output-left = o .output-left }
-
--- At own term: 13 where it did nothing.
-own-comes :
-    (s : State) (e : Effect) {d : Did} {t : Told} {l l′ out out′ : List ℕ} → Obeyed e l out d l′ out′ → t ≡ toldBy d nothing-new
-    → Comes (atOwnTerm s e) l out t l′ out′
-unfolding atOwnTerm didBy ruledBy saidBy leftBy written
-own-comes s idle o told =
-    let t = told-is nothing-new told (o .returned) in
-    record { outcome = t .0; bytes = t .1; state-left = o .state-left; output-left = o .output-left }
-own-comes s (effect next message) o told =
-    let t = told-is nothing-new told (o .returned) in
-    record { outcome = t .0; bytes = t .1; state-left = o .state-left; output-left = o .output-left }
+use Rattle.refuse.specs.Received.{bodyIn, messageIn}
+use Rattle.obey.specs.Obeyed.{Receives}
+use Rattle.obey.proofs.SenderLaws.{message-legal, may-answer}
+use Rattle.fresh.specs.declared.Told.{Told}
+use Rattle.fresh.specs.Comes.{Comes}
+use Rattle.fresh.proofs.FreshLaws.{told, refused-comes}
+use Rattle.receive.specs.Heard.{heard, Replied}
 
 -- ---- a legal message
 
@@ -102,113 +58,12 @@ module _ (w : Who) (l : List ℕ) (f : Fields) (s out : List ℕ) (g : Receives 
     unfolding receive leftBy
     stale-comes reply = rw (a, b) (record { outcome = refl; bytes = reply .returned; state-left = refl; output-left = reply .output-left })
 
--- ---- a message that is for this hub and not stale
-
-module _ (w : Who) (h : Head) (l : List ℕ) (f : Fields) (s out : List ℕ) (d : Addressed w h l f s out) where
-  is-ready : Ready w l
-  is-ready = d .receives .ready
-
-  is-legal : IsMessage (messageIn f s)
-  is-legal = message-legal w l f s out (d .receives)
-
-  -- The head is its state's.
-  pub head-of : h ≡ headOf (stateIn l .kept) (stateIn l .lost)
-  head-of = d .head ∙ ready-head w l is-ready
-
-  -- Its term is the hub's.
-  own : h .term .0 ≡ stateIn l .kept .term
-  own = ap (λ (x : Head). x .term .0) (d .head) ∙ ready-term w l is-ready
-
-  -- ---- of a higher term
-
-  module _ (up : ltb (h .term .0) (f .term .0) ≡ true) where
-    above : h .term .0 < f .term .0
-    above = ltb-true (h .term .0) (f .term .0) up
-
-    -- The hub may become a follower of it.
-    pub may-raise : Raises w h (f .term .0) l
-    may-raise = record { ready = is-ready; head = d .head; up = omega (arith, above); last = is-legal .last }
-
-    abbrev risen : State
-    risen = raised (stateIn l) (f .term .0)
-
-    -- The follower of that term is legal.
-    risen-legal : legalState w risen ≡ true
-    risen-legal = raised-legal w l is-ready (f .term .0) (omega (arith, above, ap (λ (x : Head). x .term .0) (d .head))) (is-legal .last)
-
-    -- The follower's bytes hold the follower.
-    risen-held : {l1 : List ℕ} → l1 ≡ image risen → stateIn l1 ≡ risen
-    risen-held e = ready-next w l is-ready risen risen-legal e .1
-
-    -- The rule may be obeyed there.
-    pub may-obey-risen : {l1 : List ℕ} → l1 ≡ image risen → Obeys w l1 f s out
-    unfolding raised withTerm
-    may-obey-risen {l1} e =
-        let is = risen-held e in
-        record {
-          receives = record {
-            ready = ready-next w l is-ready risen risen-legal e .0;
-            room = d .receives .room;
-            lie = d .receives .lie;
-            legal = d .receives .legal;
-          };
-          addressed = d .addressed;
-          own-term = ap (λ (x : State). x .kept .term) (sym is);
-          agrees = ap (λ (x : State). contradicts x (bodyIn (f .body) s)) is ∙ raised-agrees (stateIn l) (f .term .0) (bodyIn (f .body) s);
-        }
-
-    -- What the message comes to is what its rule comes to there.
-    higher : receive w (stateIn l) (messageIn f s) ≡ afterRaise risen (rule w risen (f .from .0) (bodyIn (f .body) s))
-    unfolding receive
-    higher = rw (d .addressed, d .fresh, ap (λ (t : ℕ). ltb t (f .term .0)) (sym own) ∙ up)
-
-    -- What the rule comes to there.
-    pub higher-comes :
-        {l1 l′ out′ : List ℕ} {did : Did} {t : Told} → l1 ≡ image risen → Obeyed (rule w (stateIn l1) (f .from .0) (bodyIn (f .body) s)) l1 out did l′ out′
-        → t ≡ toldBy did done → Comes (receive w (stateIn l) (messageIn f s)) l out t l′ out′
-    higher-comes {l1} {l′} {out′} {did} e o told =
-        let there = subst (λ (x : State). Obeyed (rule w x (f .from .0) (bodyIn (f .body) s)) l1 out did l′ out′) (risen-held e) o in
-        rw higher (raised-comes risen (rule w risen (f .from .0) (bodyIn (f .body) s)) e there told)
-
-  -- ---- of own term
-
-  module _ (low : ltb (h .term .0) (f .term .0) ≡ false) where
-    not-higher : ltb (stateIn l .kept .term) (f .term .0) ≡ false
-    not-higher = ap (λ (t : ℕ). ltb t (f .term .0)) (sym own) ∙ low
-
-    -- Outcome 7.
-    pub contradicting-comes : contradicts (stateIn l) (bodyIn (f .body) s) ≡ true → Comes (receive w (stateIn l) (messageIn f s)) l out (told contradicting 0) l out
-    unfolding receive
-    contradicting-comes c = refused-comes (stateIn l) l out contradicting (rw (d .addressed, d .fresh, not-higher, c)) (λ e. omega arith)
-
-    module _ (c : contradicts (stateIn l) (bodyIn (f .body) s) ≡ false) where
-      -- The rule may be obeyed.
-      pub may-obey : Obeys w l f s out
-      may-obey =
-          record {
-            receives = d .receives;
-            addressed = d .addressed;
-            own-term = own-term w (ready-who w l is-ready) (stateIn l) (ready-legal w l is-ready) (messageIn f s) is-legal (d .fresh) not-higher;
-            agrees = c;
-          }
-
-      -- What the message comes to is what its rule comes to.
-      at-own : receive w (stateIn l) (messageIn f s) ≡ atOwnTerm (stateIn l) (rule w (stateIn l) (f .from .0) (bodyIn (f .body) s))
-      unfolding receive
-      at-own = rw (d .addressed, d .fresh, not-higher, c)
-
-      -- What the rule comes to.
-      pub obeyed-comes :
-          {l′ out′ : List ℕ} {did : Did} {t : Told} → Obeyed (rule w (stateIn l) (f .from .0) (bodyIn (f .body) s)) l out did l′ out′
-          → t ≡ toldBy did nothing-new → Comes (receive w (stateIn l) (messageIn f s)) l out t l′ out′
-      obeyed-comes o told = rw at-own (own-comes (stateIn l) (rule w (stateIn l) (f .from .0) (bodyIn (f .body) s)) o told)
-
 -- ---- the whole event
 
 -- A text that is no message.
 pub unread-gives : (w : Who) (l input out : List ℕ) → read input ≡ none → Gives (heard w (stateIn l) (read input)) l out bad-message l out
 unfolding heard leftBy written over
-unread-gives w l input out e = rw e (record { returned = omega arith; state-left = refl; output-left = refl })
+unread-gives w l input out e = rw e (record { returned = sym (packed-alone bad-message); state-left = refl; output-left = refl })
 
 -- A message that a hub writes fits an output.
 written-small : (w : Who) (next : State) (m : Option Message) → ((x : Message) → m ≡ some x → Says w next x) → length (written m) ≤ text-room
@@ -216,25 +71,22 @@ unfolding written
 written-small w next none says = omega arith
 written-small w next (some x) says = text-most x (says x refl .legal)
 
-module _ (w : Who) (l : List ℕ) (f : Fields) (input out : List ℕ) (at : ℕ) (ready : Ready w l) (room : text-room ≤ length out) (s : Stands input f at) where
-  -- Its message is received.
-  pub may-receive : Receives w l f (drop at input) out
-  may-receive = record { ready = ready; room = room; lie = s .lie; legal = s .legal }
-
-  module _ {r : Told} {l′ out′ : List ℕ} (c : Comes (receive w (stateIn l) (messageIn f (drop at input))) l out r l′ out′) where
-    -- What is written fits an output.
-    pub bytes-small : r .bytes ≤ text-room
+module _ (w : Who) (l : List ℕ) (f : Fields) (lines out : List ℕ) (g : Receives w l f lines out) where
+  module _ {r : Told} {l′ out′ : List ℕ} (c : Comes (receive w (stateIn l) (messageIn f lines)) l out r l′ out′) where
+    -- What is written is counted in half of what is returned.
+    pub bytes-small : r .bytes < half
     bytes-small =
-        let m = messageIn f (drop at input) in
-        let fair = receive-fair w (ready-who w l ready) (stateIn l) (ready-legal w l ready) m (legalMessage-is m (s .legal)) in
-        omega (arith, c .bytes, written-small w (receive w (stateIn l) m .state) (receive w (stateIn l) m .message) (fair .sound .writes))
+        let m = messageIn f lines in
+        let fair = receive-fair w (ready-who w l (g .ready)) (stateIn l) (ready-legal w l (g .ready)) m (message-legal w l f lines out g) in
+        omega (arith, c .bytes, room-small, written-small w (receive w (stateIn l) m .state) (receive w (stateIn l) m .message) (fair .sound .writes))
 
-    -- It is what the text comes to.
-    pub read-gives : Gives (heard w (stateIn l) (read input)) l out (r .outcome + r .bytes * 4_294_967_296) l′ out′
+    -- It is what a text of the message comes to.
+    pub read-gives :
+        (input : List ℕ) {n : ℕ} → read input ≡ some (messageIn f lines) → n ≡ packed (r .outcome) (r .bytes)
+        → Gives (heard w (stateIn l) (read input)) l out n l′ out′
     unfolding heard
-    read-gives =
-        rw (s .read-is)
-        (record { returned = omega (arith, c .outcome, c .bytes); state-left = c .state-left; output-left = c .output-left })
+    read-gives input is n= =
+        rw is (record { returned = n= ∙ rw (c .outcome, c .bytes); state-left = c .state-left; output-left = c .output-left })
 
 -- The same, over the call.
 heard-answers :
@@ -246,6 +98,6 @@ heard-answers c s (some m) g = gives-answers c (receive (c .who) s m) g
 
 -- What a received text gives is the step's answer to the call, where the gate is open.
 pub step-heard :
-    (c : Call) → gate (c .who) (c .event) (c .state) (c .output) ≡ done → c .event ≡ 5 → {r : ℕ} {l out : List ℕ}
+    (c : Call) → gate (c .who) (c .event) (c .state) (c .output) ≡ done → c .event ≡ receive-number → {r : ℕ} {l out : List ℕ}
     → Gives (heard (c .who) (stateIn (c .state)) (read (c .input))) (c .state) (c .output) r l out → Answers (stepOf c) r l out
 step-heard c h e g = rw (step-receive c h e) (heard-answers c (stateIn (c .state)) (read (c .input)) g)

@@ -1,7 +1,6 @@
 -- `receive::reply_stale` meets its contract, type by type. Assumes nothing.
 use borrow.Author.Needs.{needs}
 use Rattle.rules.specs.Receive.{staleReply}
-use Rattle.receive.specs.Heard.{bodyIn}
 use Rattle.receive.proofs.ReplyLaws.{said-replied, none-replied, stale-request, stale-append}
 use Rattle.receive.proofs.reply_stale.Statement.{statement}
 use Rattle.receive.proofs.reply_stale.Tie as tie
@@ -17,22 +16,22 @@ an-append c =
 
 -- A vote-yes.
 yes : tie.Need-returns-3
-unfolding staleReply bodyIn
+unfolding staleReply
 yes c = λ s. none-replied _ (rw (c .enum-told3 .given .1))
 
 -- A vote-no.
 no : tie.Need-returns-4
-unfolding staleReply bodyIn
+unfolding staleReply
 no c = λ s. none-replied _ (rw (c .enum-told4 .given .1))
 
 -- An append-yes.
 an-end : tie.Need-returns-5
-unfolding staleReply bodyIn
+unfolding staleReply
 an-end c = λ s. none-replied _ (rw (c .enum-told5 .given .1))
 
 -- An append-no.
 a-length : tie.Need-returns-6
-unfolding staleReply bodyIn
+unfolding staleReply
 a-length c = λ s. none-replied _ (rw (c .enum-told6 .given .1))
 
 pub reply-stale-spec : {M : Type 1} → statement M

@@ -1,0 +1,3 @@
+pub mod SenderLaws
+pub mod ObeyedLaws
+pub mod RuleLaws
