@@ -1,35 +1,13 @@
 // The whole step of a hub: the tests before every event, then the event. Whatever comes in, it answers.
-ghost use mathlib.Core.Path.{_≡_};
 ghost use Rattle.rules.specs.Step.{stepOf};
-ghost use Rattle.promise.specs.Promise.{Answers, call, whoIn};
-ghost use Rattle.promise.specs.Gate.{gate};
+ghost use Rattle.promise.specs.Promise.{Answers, call};
 use kinds::Hub;
 use kinds::Place;
 use promise::Caller;
 
-// The event, once the tests before every event are passed. One that is none of the first four is a message received.
-fn act(g: Caller, event: u32, a: u32, b: u32, state: &mut [u8], input: &[u8], out: &mut [u8]) -> u64
-    requires { ⌜ gate (whoIn g) event (now state) (now out) ≡ 0 ⌝ }
-    ensures { λ r. ⌜ Answers (stepOf (call (g .size) (g .own .0) event a b (now (state .entry)) (now (input .entry)) (now (out .entry)))) r (now (state .exit)) (now (out .exit)) ⌝ }
-{
-    if event == kinds::START {
-        return start::start_at(g, state, out);
-    }
-    if event == kinds::PROPOSE {
-        return propose::propose_at(g, state, input) as u64;
-    }
-    if event == kinds::SEND {
-        return send::send_at(g, state, Hub::of(a), Place::of(b), out);
-    }
-    if event == kinds::RESTART {
-        turns::restart_in(state);
-        return kinds::DONE as u64;
-    }
-    receive::receive_at(g, state, input, out)
-}
-
 // One step: the outcome in the lower half of what is returned, the bytes written in its upper half. All but outcome 0 leave the state; output bytes past a
-// message stay. What an event does not use of a, b and the input is not looked at.
+// message stay. What an event does not use of a, b and the input is not looked at. An event that passes the tests and is none of the first four is a
+// message received.
 pub fn take_step(
     g: Caller,
     event: u32,
@@ -45,5 +23,18 @@ pub fn take_step(
     if refused != kinds::DONE {
         return refused as u64;
     }
-    act(g, event, a, b, state, input, out)
+    if event == kinds::START {
+        return start::start_at(g, state, out);
+    }
+    if event == kinds::PROPOSE {
+        return propose::propose_at(g, state, input) as u64;
+    }
+    if event == kinds::SEND {
+        return send::send_at(g, state, Hub::of(a), Place::of(b), out);
+    }
+    if event == kinds::RESTART {
+        turns::restart_in(state);
+        return kinds::DONE as u64;
+    }
+    receive::receive_at(g, state, input, out)
 }
