@@ -1,5 +1,5 @@
-// A hub's state in lent bytes: its size, and its head as a struct by value. What reads and writes the head is the crate `head`, what tests
-// bytes the crate `legal`.
+// A hub's state in lent bytes: its size, its head as a struct by value, and where a hub stands in the head's lists. What reads and writes the head is
+// the crate `head`, what tests bytes the crate `legal`.
 // The layout is docs/LAYOUT.md's: a head of 56 bytes, then a row of 20 bytes for each place of the limit.
 ghost use mathlib.Core.Path.{_≡_};
 ghost use Prim.Native.Nat.{_-_};
