@@ -19,7 +19,7 @@ use Rattle.rules.specs.Events.{len, says}
 use Rattle.rules.specs.Receive.{Effect, effect, fits, taken, heardAppend}
 use Rattle.rules.specs.Step.{written}
 use Rattle.rows.proofs.BoolLaws.{cond-either}
-use Rattle.rules.proofs.MessageLaws.{append-is}
+use Rattle.message.proofs.LegalLaws.{append-is}
 use Rattle.promise.specs.Promise.{Ready, HearsAppend, isEffect, ruledBy, saidBy}
 use Rattle.promise.proofs.PromiseLaws.{ready-legal, ready-next, ready-who}
 use Rattle.replace.specs.Taken.{takenBy}

@@ -6,8 +6,7 @@ use mathlib.Core.Bool.{true}
 use mathlib.Core.List.{List}
 use mathlib.Core.Option.{Option, none, some}
 use denote.Ref.{RefT}
-use lib.ListN.{length, drop}
-use borrow.Rule.Slice.PartAt.{part-to-end}
+use lib.ListN.{drop}
 use Rattle.message.specs.Message.{Message}
 use Rattle.message.specs.Legal.{legalMessage}
 use Rattle.message.specs.Text.{read, partFrom}
@@ -18,8 +17,10 @@ use Rattle.message.proofs.AnswerLaws.{manyIn-entries, message-back}
 use Rattle.message.proofs.ReadLaws.{read-sound}
 use Rattle.entries.proofs.WalkLaws.{part-follow}
 use Rattle.reader.specs.Answer.{readAs}
-use Rattle.reader.specs.Part.{IsPart}
+use Rattle.reader.specs.Part.{IsRest}
 use Rattle.reader.specs.declared.Read.the-variants.{Message as Read·Message, Refused}
+use Rattle.reader.proofs.AnswerLaws.{part-within}
+use Rattle.reader.proofs.PartLaws.{rest-bytes}
 use Rattle.refuse.specs.Received.{messageIn}
 
 -- A text whose fields and entry lines were found: they stand for its message, which is legal.
@@ -48,7 +49,7 @@ refused-never : {f : Fields} {n : ℕ} → Refused ≡ Read·Message f n → ⊥
 refused-never e = let z : _≡_ {A = ℕ} 0 1 = cc in omega arith
 
 -- The reader found fields, and where the entry lines begin.
-pub fields-stand :
+fields-stand :
     (input : List ℕ) (f : Fields) (at : ℕ) → readAs input (read input) ≡ Read·Message f at → {lines : List ℕ} → lines ≡ drop at input
     → Stands input f lines
 unfolding readAs
@@ -62,9 +63,11 @@ fields-stand input f at e {lines} is = by (read input) refl e
         subst (λ (x : Fields). Stands input x lines) f=
         (subst (Stands input (fieldsOf m)) (ap (λ (n : ℕ). drop n input) at= ∙ sym is) (message-stands input m q))
 
--- The bytes of the part from there on.
-pub part-is : (s r : RefT (List ℕ)) (at : ℕ) → IsPart s at (length (s .now)) r → r .now ≡ drop at (s .now)
-part-is s r at p = p .bytes ∙ part-to-end (s .now) at
+-- The reader's part from there on holds the entry lines.
+pub lines-stand :
+    (s r : RefT (List ℕ)) (f : Fields) (at : ℕ) → readAs (s .now) (read (s .now)) ≡ Read·Message f at → IsRest s at r → Stands (s .now) f (r .now)
+lines-stand s r f at e rest =
+    fields-stand (s .now) f at e (rest-bytes s r at (part-within (s .now) (read (s .now)) (Read·Message f at) (sym e) f at refl) rest)
 
 -- The reader refused.
 pub none-read : (input : List ℕ) → readAs input (read input) ≡ Refused → read input ≡ none

@@ -5,7 +5,6 @@ ghost use Prim.Native.Nat.{ℕ, _≤_};
 ghost use lib.ListN.{length};
 ghost use Rattle.kinds.specs.Sizes.{text-room};
 ghost use Rattle.message.specs.Text.{read};
-ghost use Rattle.reader.specs.Part.{IsPart};
 ghost use Rattle.state.specs.Image.{stateIn};
 ghost use Rattle.rules.specs.Receive.{staleReply, receive};
 ghost use Rattle.promise.specs.Promise.{whoIn, Ready, Gives};
@@ -70,14 +69,6 @@ fn receive_message(g: Caller, state: &mut [u8], f: Fields, lines: &[u8], out: &m
     fresh::receive_fresh(g, h, state, f, lines, out)
 }
 
-// The text from a place on, where it lies.
-fn part_from<'a>(s: &'a [u8], at: usize) -> &'a [u8]
-    requires { ⌜ at ≤ length (now s) ⌝ }
-    ensures { λ r. ⌜ IsPart (s .entry) at (length (now (s .entry))) r ⌝ }
-{
-    &s[at..]
-}
-
 // Receive: the outcome in the lower half of what is returned, the bytes written in its upper half. A text that is no legal message is refused with 4.
 pub fn receive_at(g: Caller, state: &mut [u8], input: &[u8], out: &mut [u8]) -> u64
     requires { ⌜ Ready (whoIn g) (now state) × (text-room ≤ length (now out)) ⌝ }
@@ -86,6 +77,6 @@ pub fn receive_at(g: Caller, state: &mut [u8], input: &[u8], out: &mut [u8]) -> 
     let Read::Message { fields, entries } = reader::read_message(input) else {
         return kinds::BAD_MESSAGE as u64;
     };
-    let told = receive_message(g, state, fields, part_from(input, entries), out);
+    let told = receive_message(g, state, fields, reader::lines_of(input, entries), out);
     kinds::packed(told.outcome, told.bytes)
 }

@@ -1,8 +1,7 @@
 -- `receive::receive_at` meets its contract: the text is no legal message, or it is and its outcome and bytes are packed. Assumes nothing.
 use mathlib.Core.Path.{sym, _∙_}
 use borrow.Author.Needs.{needs}
-use Rattle.reader.proofs.AnswerLaws.{part-within}
-use Rattle.receive.proofs.ReadLaws.{none-read, fields-stand, part-is}
+use Rattle.receive.proofs.ReadLaws.{none-read, lines-stand}
 use Rattle.receive.proofs.OutcomeLaws.{unread-gives, bytes-small, read-gives}
 use Rattle.receive.proofs.receive_at.Statement.{statement}
 use Rattle.receive.proofs.receive_at.Tie as tie
@@ -13,21 +12,14 @@ unread c =
     let at-read-message = c .before .before in
     unread-gives _ _ _ _ (none-read _ (sym (at-read-message .read-message .ensures .answer) ∙ c .enum-told .given .1))
 
--- The entry lines begin in the text.
-within : tie.Need-part-from-requires
-within c κs =
-    let at-fields = c .before .before in
-    let at-read-message = at-fields .before .before in
-    part-within _ _ _ (at-read-message .read-message .ensures .answer) _ _ (at-fields .fields .given .1)
-
--- The message is legal, and they are its entries'.
+-- The message is legal, and the part has its entry lines.
 may-be-received : tie.Need-receive-message-requires
 may-be-received c κs =
-    let at-part-from = c .before in
-    let at-fields = at-part-from .before .before .before in
+    let at-lines-of = c .before in
+    let at-fields = at-lines-of .before .before .before in
     let at-read-message = at-fields .before .before in
     let start = at-read-message .before .before .before .before in
-    let stands = fields-stand _ _ _ (sym (at-read-message .read-message .ensures .answer) ∙ at-fields .fields .given .1) (part-is _ _ _ (at-part-from .part-from .ensures)) in
+    let stands = lines-stand _ _ _ _ (sym (at-read-message .read-message .ensures .answer) ∙ at-fields .fields .given .1) (at-lines-of .lines-of .ensures) in
     record { ready = start .pre .0; room = start .pre .1; lie = stands .lie; legal = stands .legal }
 
 -- Its bytes are counted in the upper half.
@@ -40,13 +32,13 @@ few c κs =
 received : tie.Need-returns-2
 received c =
     let at-receive-message = c .before .before .before .before .before in
-    let at-part-from = at-receive-message .before .before in
-    let at-fields = at-part-from .before .before .before in
+    let at-lines-of = at-receive-message .before .before in
+    let at-fields = at-lines-of .before .before .before in
     let at-read-message = at-fields .before .before in
-    let stands = fields-stand _ _ _ (sym (at-read-message .read-message .ensures .answer) ∙ at-fields .fields .given .1) (part-is _ _ _ (at-part-from .part-from .ensures)) in
+    let stands = lines-stand _ _ _ _ (sym (at-read-message .read-message .ensures .answer) ∙ at-fields .fields .given .1) (at-lines-of .lines-of .ensures) in
     read-gives _ _ _ _ _ (may-be-received (at-receive-message .before) (at-receive-message .receive-message .lifetimes)) (at-receive-message .receive-message .ensures) _ (stands .read-is) (c .packed .ensures)
 
 pub receive-at-spec : {M : Type 1} → statement M
 receive-at-spec =
     tie.close
-    (tie.spec (λ c κs. search needs) (λ c. search needs) (λ c. search needs) (λ c. search needs) unread within may-be-received few (λ c. search needs) (λ c. search needs) received)
+    (tie.spec (λ c κs. search needs) (λ c. search needs) (λ c. search needs) (λ c. search needs) unread (λ c κs. search needs) may-be-received few (λ c. search needs) (λ c. search needs) received)
