@@ -18,7 +18,7 @@ use Rattle.state.specs.Image.{image, stateIn}
 use Rattle.rules.specs.Events.{len, says}
 use Rattle.rules.specs.Receive.{Effect, effect, fits, taken, heardAppend}
 use Rattle.rules.specs.Step.{written}
-use Rattle.rows.proofs.BoolLaws.{cond-either}
+use Rattle.kinds.proofs.BoolLaws.{cond-either}
 use Rattle.message.proofs.LegalLaws.{append-is}
 use Rattle.promise.specs.Promise.{Ready, HearsAppend, isEffect, ruledBy, saidBy}
 use Rattle.promise.proofs.PromiseLaws.{ready-legal, ready-next, ready-who}

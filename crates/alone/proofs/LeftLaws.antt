@@ -15,7 +15,6 @@ use Rattle.kinds.proofs.SizesLaws.{room-small}
 use Rattle.command.proofs.Tests.{by-test}
 use Rattle.message.specs.Write.{messageWith}
 use Rattle.message.specs.declared.Fields.{Fields}
-use Rattle.state.proofs.ImageLaws.{same-is, is-same}
 use Rattle.numbers.specs.Numbers.{message-numbers, numbersOf, numbersIn, fieldsWith, areFields}
 use Rattle.numbers.proofs.NumbersLaws.{numbers-same, fields-numbers, other-count}
 use Rattle.alone.specs.Written.{Written, written, outcomeOf, bytesOf, Writes}
@@ -24,6 +23,7 @@ use Rattle.alone.specs.declared.Write.the-variants.{Message as Write·Me
 use Rattle.alone.specs.Told.{tellsRead, tells}
 use Rattle.alone.specs.Left.{writes, Leaves}
 use Rattle.alone.proofs.WrittenLaws.{written-back, written-fits}
+use Rattle.kinds.proofs.SameLaws.{same-is, is-same}
 
 -- ---- each way through the code
 

@@ -11,7 +11,7 @@ use Rattle.kinds.specs.Sizes.{Who, row-size}
 use Rattle.command.specs.Words.{wordAt}
 use Rattle.command.specs.Entry.{Entry}
 use Rattle.rows.specs.Rows.{rowsIn, entryOf}
-use Rattle.rows.proofs.BoolLaws.{not-below}
+use Rattle.kinds.proofs.BoolLaws.{not-below}
 use Rattle.rows.proofs.PartLaws.{wordAt-drop}
 use Rattle.state.specs.declared.Head.{Head}
 use Rattle.state.specs.State.{Kept}

@@ -25,7 +25,7 @@ use Rattle.state.proofs.ImageLaws.{image-is}
 use Rattle.state.proofs.TableLaws.{pairs-fit}
 use Rattle.rules.specs.Events.{isCandidate}
 use Rattle.rules.specs.Receive.{idle, effect, gather, counted, heardYes, contradicts}
-use Rattle.rows.proofs.BoolLaws.{or-first}
+use Rattle.kinds.proofs.BoolLaws.{or-first}
 use Rattle.state.proofs.LegalLaws.{legalCandidate-is, legalState-kept, legalState-lost}
 use Rattle.message.proofs.LegalLaws.{IsYes, yes-is}
 use Rattle.rules.proofs.GatherLaws.{gather-length}

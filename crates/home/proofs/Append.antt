@@ -13,7 +13,7 @@ use Rattle.command.specs.Entry.{Entry}
 use Rattle.state.specs.State.{Kept, State}
 use Rattle.rules.specs.Events.{termAt, says}
 use Rattle.rules.specs.Receive.{Effect, fits, replaced, taken, heardAppend}
-use Rattle.rows.proofs.BoolLaws.{and-first, and-second, or-either, cond-either}
+use Rattle.kinds.proofs.BoolLaws.{and-first, and-second, or-either, cond-either}
 use Rattle.rules.proofs.LegalLaws.{IsWho}
 use Rattle.views.specs.Hall.{Hall}
 use Rattle.views.proofs.Moves.{stay}

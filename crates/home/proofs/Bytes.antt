@@ -20,7 +20,7 @@ use Rattle.rules.specs.Outcome.{done, not-known, short-output, bad-message}
 use Rattle.rules.specs.Step.{Call, Answer, Event, start-event, propose-event, send-event, restart-event, receive-event, eventOf, refusal, answer, receiving, acting, keptAlone, seen, atState, atEvent, stepOf}
 use Rattle.rules.specs.Receive.{receive}
 use Rattle.rules.specs.Happens.{Occasion, to-start, to-propose, to-send, to-restart, to-receive, happens}
-use Rattle.rows.proofs.BoolLaws.{and-first, and-second, cond-either}
+use Rattle.kinds.proofs.BoolLaws.{and-first, and-second, cond-either}
 use Rattle.paxos.proofs.Member.{clash}
 use Rattle.home.specs.Hub.{isRestart, textFor, commandFor, messageOf, proposalOf}
 

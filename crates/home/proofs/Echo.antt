@@ -42,7 +42,7 @@ use Rattle.rules.specs.Receive.{
   receive,
 }
 use Rattle.rules.specs.Happens.{Occasion, to-start, to-propose, to-send, to-restart, to-receive, happens}
-use Rattle.rows.proofs.BoolLaws.{or-first, or-second, cond-either}
+use Rattle.kinds.proofs.BoolLaws.{or-first, or-second, cond-either}
 use Rattle.paxos.specs.Put.{put}
 use Rattle.paxos.proofs.Member.{clash}
 use Rattle.paxos.proofs.PutLaws.{put-same, put-other}

@@ -12,7 +12,7 @@ use Rattle.state.specs.State.{Kept, leader}
 use Rattle.rules.specs.Majority.{majorityPlace}
 use Rattle.rules.specs.Events.{forHub, setHub}
 use Rattle.rules.specs.Receive.{Effect, recorded, heardEnd}
-use Rattle.rows.proofs.BoolLaws.{cond-either}
+use Rattle.kinds.proofs.BoolLaws.{cond-either}
 use Rattle.state.proofs.LegalLaws.{IsLeader}
 use Rattle.rules.proofs.LegalLaws.{IsWho}
 use Rattle.rules.proofs.MajorityLaws.{majorityPlace-is-largest}

@@ -13,7 +13,7 @@ use Rattle.state.specs.State.{Lost, follower, candidate, leader, Kept, State, f
 use Rattle.state.specs.Legal.{legalKept, legalLost, legalState}
 use Rattle.rules.specs.Outcome.{done}
 use Rattle.rules.specs.Happens.{Occasion, to-start, to-propose, to-send, to-restart, to-receive, happens, legalAt, Meets}
-use Rattle.rows.proofs.BoolLaws.{and-first, and-both}
+use Rattle.kinds.proofs.BoolLaws.{and-first, and-both}
 use Rattle.state.proofs.LegalLaws.{legalState-kept, legalState-lost}
 use Rattle.rules.proofs.LegalLaws.{IsWho, isWho}
 use Rattle.rules.proofs.Theorems.{fresh-is-legal, next-is-legal, nothing-falls, message-is-legal}

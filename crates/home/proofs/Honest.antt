@@ -21,7 +21,7 @@ use Rattle.rules.specs.Outcome.{Next, done, not-addressed, contradicting}
 use Rattle.rules.specs.Events.{isLeader, isCandidate, len, start, proposeLeading, propose, send, restart}
 use Rattle.rules.specs.Receive.{Effect, idle, effect, isMisaddressed, isRequest, isStale, contradicts, raised, afterRaise, atOwnTerm, receive}
 use Rattle.rules.specs.Happens.{Occasion, to-start, to-propose, to-send, to-restart, to-receive, happens}
-use Rattle.rows.proofs.BoolLaws.{or-first, or-second, cond-either}
+use Rattle.kinds.proofs.BoolLaws.{or-first, or-second, cond-either}
 use Rattle.rules.proofs.LegalLaws.{legalMessage-is}
 use Rattle.paxos.proofs.Member.{clash}
 use Rattle.views.specs.Hall.{Hall}

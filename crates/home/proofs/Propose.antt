@@ -16,7 +16,7 @@ use Rattle.state.specs.State.{Kept, Lost, follower, candidate, leader, State}
 use Rattle.state.specs.Legal.{legalLost}
 use Rattle.rules.specs.Outcome.{Next, done}
 use Rattle.rules.specs.Events.{leads, withEntry, proposeLeading, propose}
-use Rattle.rows.proofs.BoolLaws.{cond-either}
+use Rattle.kinds.proofs.BoolLaws.{cond-either}
 use Rattle.state.proofs.LegalLaws.{IsLeader, legalLeader-is}
 use Rattle.rules.proofs.LegalLaws.{IsWho}
 use Rattle.paxos.specs.Put.{put}

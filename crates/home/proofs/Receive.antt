@@ -33,7 +33,7 @@ use Rattle.rules.specs.Receive.{
   atOwnTerm,
   receive,
 }
-use Rattle.rows.proofs.BoolLaws.{or-first, or-second, or-either, cond-either}
+use Rattle.kinds.proofs.BoolLaws.{or-first, or-second, or-either, cond-either}
 use Rattle.kinds.proofs.BetweenLaws.{between-true}
 use Rattle.state.proofs.LegalLaws.{legalCandidate-is, legalLeader-is}
 use Rattle.rules.proofs.LegalLaws.{IsWho, legalMessage-is}

@@ -12,7 +12,7 @@ use Rattle.message.specs.Message.{Body}
 use Rattle.state.specs.State.{State}
 use Rattle.rules.specs.Events.{says, withTerm}
 use Rattle.rules.specs.Receive.{vote, raised}
-use Rattle.rows.proofs.BoolLaws.{cond-either}
+use Rattle.kinds.proofs.BoolLaws.{cond-either}
 use Rattle.rules.proofs.LegalLaws.{IsWho}
 use Rattle.paxos.specs.Paxos.{_∈_}
 use Rattle.views.specs.Hall.{gave, Hall}

@@ -14,7 +14,7 @@ use Rattle.command.specs.Entry.{Entry}
 use Rattle.state.specs.State.{Kept, Lost, follower, candidate, leader, State}
 use Rattle.rules.specs.Outcome.{Next}
 use Rattle.rules.specs.Events.{isLeader, len, termAt, says, sends, send}
-use Rattle.rows.proofs.BoolLaws.{cond-either, or-second}
+use Rattle.kinds.proofs.BoolLaws.{cond-either, or-second}
 use Rattle.state.proofs.LegalLaws.{IsKept}
 use Rattle.paxos.specs.Paxos.{at}
 use Rattle.paxos.proofs.Member.{clash}

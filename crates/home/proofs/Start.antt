@@ -13,7 +13,7 @@ use Rattle.command.specs.Entry.{Entry}
 use Rattle.state.specs.State.{Kept, State}
 use Rattle.rules.specs.Outcome.{Next}
 use Rattle.rules.specs.Events.{isLeader, setHub, withTerm, started, asks, says, start}
-use Rattle.rows.proofs.BoolLaws.{cond-either}
+use Rattle.kinds.proofs.BoolLaws.{cond-either}
 use Rattle.rules.proofs.LegalLaws.{IsWho}
 use Rattle.paxos.specs.Quorum.{IsHub}
 use Rattle.paxos.specs.Put.{put}

@@ -24,7 +24,7 @@ use Rattle.rules.specs.Events.{isLeader, len, termAt, withTerm, leads, started,
 use Rattle.rules.specs.Receive.{Effect, idle, effect, joined, counted, heardYes, fits, replaced, taken, heardAppend, recorded, heardEnd, rule, isMisaddressed, isStale, contradicts, atOwnTerm, receive}
 use Rattle.rules.specs.Happens.{to-start, to-propose, to-send, to-restart, to-receive, happens, legalAt}
 use Rattle.kept.specs.Change.{ChangeShows}
-use Rattle.rows.proofs.BoolLaws.{and-first, or-either, cond-either}
+use Rattle.kinds.proofs.BoolLaws.{and-first, or-either, cond-either}
 use Rattle.state.proofs.LegalLaws.{legalCandidate-is, legalState-lost}
 use Rattle.rules.proofs.Theorems.{raised-term}
 

@@ -3,3 +3,5 @@ pub mod Clash
 pub mod AtLaws
 pub mod PackedLaws
 pub mod SizesLaws
+pub mod BoolLaws
+pub mod SameLaws

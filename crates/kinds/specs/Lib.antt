@@ -5,3 +5,4 @@ pub mod Role
 pub mod Event
 pub mod Packed
 pub mod Hubs
+pub mod Same

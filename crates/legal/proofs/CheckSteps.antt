@@ -23,7 +23,7 @@ use Rattle.state.specs.Image.{head-size, state-size, pairOf}
 use Rattle.state.specs.Table.{pairRow}
 use Rattle.state.specs.Head.{headIn, isFlag, isNone, keptHead, votersIn, confirmedIn, followerHead, candidateHead, leaderHead, roleHead}
 use Rattle.state.specs.Check.{legalLog, legalGathered, zeros, checkedHead, checkedTable, Room}
-use Rattle.rows.proofs.BoolLaws.{and-first, and-fails, and-alone, each-holds, same-test}
+use Rattle.kinds.proofs.BoolLaws.{and-first, and-fails, and-alone, each-holds, same-test}
 use Rattle.state.proofs.LegalLaws.{all-ends}
 
 -- ---- rows

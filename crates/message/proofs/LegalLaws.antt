@@ -15,7 +15,7 @@ use Rattle.kinds.proofs.BetweenLaws.{between-true}
 use Rattle.kinds.proofs.SizesLaws.{limit-small}
 use Rattle.command.specs.Entry.{Entry, legalEntries}
 use Rattle.command.proofs.Tests.{both}
-use Rattle.rows.proofs.BoolLaws.{and-both, each-holds, or-either, or-one, beq-true, beq-both}
+use Rattle.kinds.proofs.BoolLaws.{and-both, each-holds, or-either, or-one, beq-true, beq-both}
 use Rattle.message.specs.Message.{Message, Body, vote-request, vote-yes, vote-no, append, append-yes, append-no, entriesOf}
 use Rattle.message.specs.Legal.{legalTo, legalBody, legalMessage}
 use Rattle.message.specs.Fields.{ownNumbers, numbers}

@@ -22,9 +22,9 @@ use Rattle.message.proofs.FieldsLaws.{spelled}
 use Rattle.fields.specs.Table.{fieldsBy}
 use Rattle.fields.specs.declared.Kind.{Kind}
 use Rattle.fields.specs.declared.Kind.the-variants.{AppendNo as Kind·AppendNo}
-use Rattle.state.specs.Image.{same}
-use Rattle.state.proofs.ImageLaws.{same-is}
 use Rattle.numbers.specs.Numbers.{message-numbers, typeNumber, numbersOf, numbersIn, kindWith, fieldsWith, areFields}
+use Rattle.kinds.specs.Same.{same}
+use Rattle.kinds.proofs.SameLaws.{same-is}
 
 -- ---- a message's numbers
 

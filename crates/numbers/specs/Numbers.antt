@@ -22,7 +22,7 @@ use Rattle.message.specs.declared.Fields.{Fields}
 use Rattle.fields.specs.Table.{fieldsBy}
 use Rattle.fields.specs.declared.Kind.{Kind}
 use Rattle.fields.specs.declared.Kind.the-variants.{VoteRequest, VoteYes, VoteNo, Append, AppendYes, AppendNo}
-use Rattle.state.specs.Image.{same}
+use Rattle.kinds.specs.Same.{same}
 
 abbrev pub message-numbers : ℕ
 message-numbers = 8

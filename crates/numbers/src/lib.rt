@@ -3,7 +3,7 @@ ghost use mathlib.Core.Path.{_≡_};
 ghost use Prim.Native.Nat.{_≤_};
 ghost use lib.ListN.{length};
 ghost use lib.Seq.{sets};
-ghost use Rattle.state.specs.Image.{same};
+ghost use Rattle.kinds.specs.Same.{same};
 ghost use Rattle.numbers.specs.Numbers.{message-numbers, numbersIn, kindWith, fieldsWith};
 use fields::Kind;
 use message::Body;

@@ -11,7 +11,7 @@ use Rattle.kinds.specs.Sizes.{limit, row-size}
 use Rattle.command.specs.Entry.{Entry}
 use Rattle.state.specs.State.{Pair}
 use Rattle.rows.specs.Rows.{row, Row}
-use Rattle.rows.proofs.BoolLaws.{and-first, and-second}
+use Rattle.kinds.proofs.BoolLaws.{and-first, and-second}
 use Rattle.rows.proofs.RowLaws.{rowFits}
 use Rattle.state.specs.Legal.{all}
 use Rattle.state.specs.Image.{head-size}

@@ -10,9 +10,10 @@ use lib.ListN.{length}
 use Rattle.kinds.specs.Event.{restart-number}
 use Rattle.kinds.specs.Sizes.{Who}
 use Rattle.state.specs.Legal.{legalKept, legalState}
-use Rattle.state.specs.Image.{state-size, image, keptIn, stateIn, same, readState, readKept}
+use Rattle.state.specs.Image.{state-size, image, keptIn, stateIn, readState, readKept}
 use Rattle.state.specs.Check.{isSome}
 use Rattle.promise.specs.Gate.{isFit}
+use Rattle.kinds.specs.Same.{same}
 
 -- ---- what is read
 

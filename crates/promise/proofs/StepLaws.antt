@@ -15,7 +15,7 @@ use Rattle.message.specs.Text.{read}
 use Rattle.state.specs.State.{Kept, State}
 use Rattle.state.specs.Image.{image, keptIn, stateIn, readKept}
 use Rattle.state.specs.Check.{isSome}
-use Rattle.rows.proofs.BoolLaws.{and-first, and-second}
+use Rattle.kinds.proofs.BoolLaws.{and-first, and-second}
 use Rattle.rules.specs.Outcome.{done, not-known, bad-state, short-output}
 use Rattle.rules.specs.Events.{start, propose, send, restart}
 use Rattle.rules.specs.Step.{Call, Event, start-event, propose-event, send-event, restart-event, receive-event, eventOf, refusal, receiving, acting, keptAlone, seen, atState, atEvent, stepOf}

@@ -24,7 +24,7 @@ use Rattle.state.proofs.LegalLaws.{rowsOf-length}
 use Rattle.rows.proofs.ListLaws.{bytesOf-map}
 use Rattle.rules.specs.Events.{termAt}
 use Rattle.rules.specs.Receive.{fits, replaced, taken}
-use Rattle.rows.proofs.BoolLaws.{and-first, and-second, and-either, or-either, not-both, not-below}
+use Rattle.kinds.proofs.BoolLaws.{and-first, and-second, and-either, or-either, not-both, not-below}
 use Rattle.message.proofs.LegalLaws.{append-is}
 use Rattle.promise.specs.Promise.{Ready}
 use Rattle.promise.specs.Heads.{taking}

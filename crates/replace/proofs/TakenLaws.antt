@@ -16,7 +16,7 @@ use Rattle.state.specs.State.{Kept, State}
 use Rattle.state.specs.Legal.{legalState}
 use Rattle.rules.specs.Events.{len, says}
 use Rattle.rules.specs.Receive.{effect, fits, replaced, taken, heardAppend}
-use Rattle.rows.proofs.BoolLaws.{cond-either}
+use Rattle.kinds.proofs.BoolLaws.{cond-either}
 use Rattle.state.proofs.LegalLaws.{IsKept, legalState-kept, follower-legal}
 use Rattle.rules.proofs.LegalLaws.{IsWho}
 use Rattle.message.proofs.LegalLaws.{IsAppend, append-is}

@@ -8,7 +8,7 @@ use Rattle.kinds.specs.Hubs.{all}
 use Rattle.kinds.specs.Role.{as-follower, as-candidate, as-leader}
 use Rattle.kinds.specs.Sizes.{Who, hubs-most, limit}
 use Rattle.command.specs.Words.{part}
-use Rattle.rows.proofs.BoolLaws.{and-fails, not-below}
+use Rattle.kinds.proofs.BoolLaws.{and-fails, not-below}
 use Rattle.state.specs.declared.Head.{Head}
 use Rattle.state.specs.Head.{headIn, isFlag, isNone, votersIn, confirmedIn, keptHead, followerHead, candidateHead, leaderHead, roleHead}
 use Rattle.state.specs.Check.{checkedHead}

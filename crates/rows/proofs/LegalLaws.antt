@@ -13,7 +13,7 @@ use Rattle.command.specs.Words.{part, wordAt}
 use Rattle.command.specs.Command.{command-size, legalCommand, commandOf}
 use Rattle.command.specs.Entry.{Entry, legalEntries}
 use Rattle.rows.specs.Rows.{rowOf, entryRow, entryOf, rowsIn, legalRows}
-use Rattle.rows.proofs.BoolLaws.{and-fails}
+use Rattle.kinds.proofs.BoolLaws.{and-fails}
 use Rattle.rows.proofs.PartLaws.{wordAt-drop, part-drop}
 use Rattle.rows.proofs.RowLaws.{rowsIn-map}
 

@@ -1,4 +1,3 @@
-pub mod BoolLaws
 pub mod ListLaws
 pub mod PartLaws
 pub mod RowLaws

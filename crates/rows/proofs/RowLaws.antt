@@ -16,7 +16,7 @@ use Rattle.command.specs.Entry.{Entry, legalEntries}
 use Rattle.command.proofs.WordsLaws.{Bytes, word-length, wordAt-word, word-wordAt, part-length, part-bytes}
 use Rattle.command.proofs.CommandLaws.{commandBytes-length, commandOf-bytes, commandBytes-of, legal-ranged}
 use Rattle.rows.specs.Rows.{Row, rowOf, entryRow, entryOf, bytesOf, row, rowBytes, rowsIn}
-use Rattle.rows.proofs.BoolLaws.{and-first, and-second, and-both}
+use Rattle.kinds.proofs.BoolLaws.{and-first, and-second, and-both}
 use Rattle.rows.proofs.ListLaws.{bytesOf-length}
 use Rattle.rows.proofs.PartLaws.{part-front, part-behind, part-split, drop-behind, drop-bytes}
 

@@ -16,7 +16,7 @@ use Rattle.state.specs.Legal.{legalState}
 use Rattle.rules.specs.Events.{termAt}
 use Rattle.rules.specs.Receive.{fits, replaced, taken, heardAppend}
 use Rattle.rules.specs.Theorems.{Grows}
-use Rattle.rows.proofs.BoolLaws.{and-first, and-second, and-either, or-either, not-both, cond-either}
+use Rattle.kinds.proofs.BoolLaws.{and-first, and-second, and-either, or-either, not-both, cond-either}
 use Rattle.kinds.proofs.BetweenLaws.{between-in}
 use Rattle.command.proofs.EntryLaws.{legalEntries-wider}
 use Rattle.rules.proofs.EntryLaws.{legalEntries-take, legalEntries-append, lastTerm, termAt-is}

@@ -14,7 +14,7 @@ use Rattle.message.specs.Legal.{legalTo, legalBody, legalMessage}
 use Rattle.message.specs.Message.{entriesOf}
 use Rattle.message.specs.Text.{linesText, entryText, entriesText, text, typeAmong, types, lines, entry, entries, message, ifLegal, read, partFrom, partTo}
 use Rattle.rows.specs.Rows.{bytesOf, row, rowsIn}
-use Rattle.state.specs.Image.{state-size, roleOf, votersOf, gatheredOf, confirmedOf, flags, headBytes, image, keptIn, wordsIn, lostIn, stateIn, same, readState, readKept}
+use Rattle.state.specs.Image.{state-size, roleOf, votersOf, gatheredOf, confirmedOf, flags, headBytes, image, keptIn, wordsIn, lostIn, stateIn, readState, readKept}
 use Rattle.state.specs.Legal.{all, count, legalKept, legalPair, legalCandidate, legalLeader, legalLost, legalState}
 use Rattle.state.specs.State.{fresh, reported}
 use Rattle.rules.specs.Events.{isLeader, isCandidate, termAt, says, withTerm, leads, started, asks, start, withEntry, proposeLeading, propose, sends, send, restart}
@@ -22,6 +22,7 @@ use Rattle.rules.specs.Majority.{confirmedBy, largest, majorityPlace}
 use Rattle.rules.specs.Receive.{vote, gather, joined, counted, heardYes, fits, replaced, taken, heardAppend, recorded, heardEnd, rule, isMisaddressed, isRequest, isStale, staleReply, contradicts, raised, afterRaise, atOwnTerm, receive}
 use Rattle.rules.specs.Row.{holds, Row}
 use Rattle.rules.specs.Step.{eventOf, refusal, over, written, answer, receiving, acting, keptAlone, seen, atState, atEvent, stepOf}
+use Rattle.kinds.specs.Same.{same}
 
 -- `holds`: whoever unfolds this one has all the definitions below it unfolded.
 unfoldable pub computed : Row → Bool

@@ -6,7 +6,7 @@ use mathlib.Core.Bool.{Bool, true, false}
 use mathlib.Core.List.{List, [], _∷_, map, map-id}
 use lib.ListN.{length, take, drop, getD, set, replicate}
 use Rattle.state.specs.Legal.{all, count}
-use Rattle.rows.proofs.BoolLaws.{and-first, and-second, and-both}
+use Rattle.kinds.proofs.BoolLaws.{and-first, and-second, and-both}
 
 -- ---- all
 

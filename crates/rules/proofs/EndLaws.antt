@@ -16,7 +16,7 @@ use Rattle.state.specs.Legal.{legalLost, legalState}
 use Rattle.rules.specs.Majority.{majorityPlace}
 use Rattle.rules.specs.Events.{isLeader}
 use Rattle.rules.specs.Receive.{recorded, heardEnd, contradicts}
-use Rattle.rows.proofs.BoolLaws.{cond-either}
+use Rattle.kinds.proofs.BoolLaws.{cond-either}
 use Rattle.rules.proofs.CountLaws.{all-set}
 use Rattle.state.proofs.LegalLaws.{IsKept, IsLeader, legalLeader-is, legalState-kept, legalState-lost, leader-legal}
 use Rattle.rules.proofs.LegalLaws.{IsWho}

@@ -12,7 +12,7 @@ use Rattle.command.specs.Entry.{Entry, legalEntries}
 use Rattle.state.specs.Legal.{all}
 use Rattle.command.proofs.EntryLaws.{legalEntries-first, first-legalEntries, legalEntries-wider}
 use Rattle.rules.specs.Events.{termAt}
-use Rattle.rows.proofs.BoolLaws.{and-first, and-second, and-both}
+use Rattle.kinds.proofs.BoolLaws.{and-first, and-second, and-both}
 
 -- ---- the last term
 

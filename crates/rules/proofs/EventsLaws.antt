@@ -18,7 +18,7 @@ use Rattle.state.specs.Legal.{all, legalKept, legalLost, legalState}
 use Rattle.rules.specs.Outcome.{wrong-role, no-term-left, bad-command, log-full, out-of-range}
 use Rattle.rules.specs.Events.{isLeader, len, withTerm, leads, started, asks, start, withEntry, proposeLeading, propose, sends, send, restart}
 use Rattle.rules.specs.Theorems.{Grows, Says}
-use Rattle.rows.proofs.BoolLaws.{and-second, and-both, or-first, or-second, cond-either, cond-some}
+use Rattle.kinds.proofs.BoolLaws.{and-second, and-both, or-first, or-second, cond-either, cond-some}
 use Rattle.rules.proofs.CountLaws.{all-weaker, all-set, all-drop, all-replicate, count-set, count-none}
 use Rattle.kinds.proofs.BetweenLaws.{between-in}
 use Rattle.command.proofs.EntryLaws.{legalEntries-wider}

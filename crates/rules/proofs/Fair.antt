@@ -13,7 +13,7 @@ use Rattle.rules.specs.Outcome.{Next, done, stale, goes, refuses}
 use Rattle.rules.specs.Events.{says}
 use Rattle.rules.specs.Receive.{Effect, idle, effect}
 use Rattle.rules.specs.Theorems.{Grows, Says}
-use Rattle.rows.proofs.BoolLaws.{none-some}
+use Rattle.kinds.proofs.BoolLaws.{none-some}
 use Rattle.rules.proofs.LegalLaws.{IsWho, is-legalMessage}
 
 -- A next state and what is written with it.

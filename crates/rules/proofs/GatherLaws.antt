@@ -17,7 +17,7 @@ use Rattle.state.specs.State.{Kept, Pair, Lost, follower, candidate, leader, St
 use Rattle.state.specs.Legal.{all, count, legalPair, legalLost, legalState}
 use Rattle.rules.specs.Events.{isCandidate, leads}
 use Rattle.rules.specs.Receive.{effect, gather, joined, counted, heardYes, contradicts}
-use Rattle.rows.proofs.BoolLaws.{and-first, and-second, and-both, or-first, not-both, cond-either}
+use Rattle.kinds.proofs.BoolLaws.{and-first, and-second, and-both, or-first, not-both, cond-either}
 use Rattle.rules.proofs.CountLaws.{all-weaker, all-drop, all-replicate, all-map, getD-set-true}
 use Rattle.rules.proofs.EntryLaws.{legalEntries-joined, legalEntries-commands}
 use Rattle.state.proofs.LegalLaws.{IsKept, IsCandidate, legalCandidate-is, legalState-kept, legalState-lost, candidate-legal}

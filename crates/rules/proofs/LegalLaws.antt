@@ -9,7 +9,7 @@ use lib.Dec.{eqb}
 use Rattle.kinds.specs.Sizes.{Who, between, isSize, isHub, hubs-most, term-most}
 use Rattle.message.specs.Message.{Message}
 use Rattle.message.specs.Legal.{legalTo, legalBody, legalMessage}
-use Rattle.rows.proofs.BoolLaws.{and-both, each-holds, or-either}
+use Rattle.kinds.proofs.BoolLaws.{and-both, each-holds, or-either}
 use Rattle.kinds.proofs.BetweenLaws.{between-in, between-true}
 
 -- ---- sizes

@@ -17,7 +17,7 @@ use Rattle.rules.specs.Outcome.{Next, done, stale, not-addressed, contra
 use Rattle.rules.specs.Events.{isLeader, isCandidate, len, says, withTerm}
 use Rattle.rules.specs.Receive.{Effect, idle, effect, vote, rule, isMisaddressed, isRequest, isStale, staleReply, contradicts, raised, afterRaise, atOwnTerm, receive}
 use Rattle.rules.specs.Theorems.{Grows, Says, ChangesNothing, NothingNew}
-use Rattle.rows.proofs.BoolLaws.{and-first, and-either, or-either, or-first, or-second, cond-either, not-both}
+use Rattle.kinds.proofs.BoolLaws.{and-first, and-either, or-either, or-first, or-second, cond-either, not-both}
 use Rattle.kinds.proofs.BetweenLaws.{between-in}
 use Rattle.command.proofs.EntryLaws.{legalEntries-wider}
 use Rattle.rules.proofs.EntryLaws.{legalEntries-drop, lastTerm, lastTerm-from, legalEntries-take}

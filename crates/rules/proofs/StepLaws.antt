@@ -15,14 +15,15 @@ use Rattle.message.specs.Text.{message, ifLegal, read}
 use Rattle.text.specs.Reader.{whole}
 use Rattle.state.specs.State.{Kept, State}
 use Rattle.state.specs.Legal.{legalKept, legalState}
-use Rattle.state.specs.Image.{state-size, image, keptIn, stateIn, same, readState, readKept}
+use Rattle.state.specs.Image.{state-size, image, keptIn, stateIn, readState, readKept}
 use Rattle.rules.specs.Outcome.{done, not-known, bad-state, short-output, bad-message}
 use Rattle.rules.specs.Events.{restart}
 use Rattle.rules.specs.Step.{Call, Event, start-event, propose-event, send-event, restart-event, receive-event, eventOf, refusal, over, written, answer, receiving, acting, keptAlone, seen, atState, atEvent, stepOf}
 use Rattle.rules.specs.Happens.{Occasion, to-start, to-propose, to-send, to-restart, to-receive, happens, legalAt, received, occasionOf, Meets}
 use Rattle.rules.specs.Theorems.{Leaves, StepIsWhatHappens, CallLeavesLegal}
-use Rattle.rows.proofs.BoolLaws.{and-first, and-second, and-both, cond-either, none-some, cond-some}
+use Rattle.kinds.proofs.BoolLaws.{and-first, and-second, and-both, cond-either, none-some, cond-some}
 use Rattle.rules.proofs.Theorems.{next-is-legal, message-is-legal, refusal-is-silent}
+use Rattle.kinds.specs.Same.{same}
 
 -- ---- the step does what happens
 

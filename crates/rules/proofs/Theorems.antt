@@ -23,7 +23,7 @@ use Rattle.rules.specs.Events.{isLeader, len, withTerm, leads, started, 
 use Rattle.rules.specs.Receive.{Effect, heardYes, fits, taken, heardAppend, heardEnd, rule, isStale, raised, afterRaise, receive}
 use Rattle.rules.specs.Happens.{Occasion, to-start, to-propose, to-send, to-restart, to-receive, happens, legalAt, Meets}
 use Rattle.rules.specs.Theorems.{NextIsLegal, NothingFalls, MessageIsLegal, RefusalLeaves, RefusalIsSilent, ThirteenExactly, MajorityPlaceInLog, StartTakesEffect, ProposeTakesEffect, SendTakesEffect, RestartTakesEffect, HigherTermTakesEffect, FreshIsLegal}
-use Rattle.rows.proofs.BoolLaws.{and-first, and-second, not-both, cond-either}
+use Rattle.kinds.proofs.BoolLaws.{and-first, and-second, not-both, cond-either}
 use Rattle.state.proofs.LegalLaws.{legalLeader-is, legalState-lost}
 use Rattle.rules.proofs.LegalLaws.{isWho, legalMessage-is}
 use Rattle.rules.proofs.MajorityLaws.{majorityPlace-within}

@@ -6,9 +6,9 @@ use mathlib.Core.Path.{_≡_}
 use lib.Dec.{eqb}
 use lib.ListN.{length, replicate}
 use Rattle.kinds.specs.Sizes.{Who}
-use Rattle.state.specs.Image.{same}
 use Rattle.state.specs.Legal.{all}
 use Rattle.rules.specs.Step.{Call, Answer, stepOf, over}
+use Rattle.kinds.specs.Same.{same}
 
 pub record Row : Type 0 where
   pub case : ℕ  -- the number of the case, or the outcome that the row is an example of

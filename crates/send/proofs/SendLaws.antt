@@ -21,7 +21,7 @@ use Rattle.state.specs.declared.Head.{Head}
 use Rattle.state.specs.Image.{stateIn}
 use Rattle.rules.specs.Outcome.{done, goes, wrong-role, out-of-range}
 use Rattle.rules.specs.Events.{termAt, says, sends, send}
-use Rattle.rows.proofs.BoolLaws.{or-second}
+use Rattle.kinds.proofs.BoolLaws.{or-second}
 use Rattle.rules.proofs.Fair.{Fair}
 use Rattle.rules.proofs.EventsLaws.{send-fair}
 use Rattle.promise.specs.Promise.{Gives}

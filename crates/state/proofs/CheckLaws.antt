@@ -19,17 +19,19 @@ use Rattle.command.proofs.WordsLaws.{Bytes, part-length, wordAt-below}
 use Rattle.state.specs.State.{Kept, Lost, follower, candidate, leader, State}
 use Rattle.state.specs.Legal.{all, count, legalKept, legalPair, legalCandidate, legalLeader, legalLost, legalState}
 use Rattle.rows.specs.Rows.{rowsIn, entryOf, rowBytes, entryRow, rowOf}
-use Rattle.state.specs.Image.{head-size, state-size, roleOf, votersOf, gatheredOf, confirmedOf, flags, image, pairOf, keptIn, wordsIn, lostIn, stateIn, same, readState, readKept}
+use Rattle.state.specs.Image.{head-size, state-size, roleOf, votersOf, gatheredOf, confirmedOf, flags, image, pairOf, keptIn, wordsIn, lostIn, stateIn, readState, readKept}
 use Rattle.state.specs.Head.{headIn, isFlag, headOf, keptHead, isNone, votersIn, confirmedIn, followerHead, candidateHead, leaderHead, roleHead}
 use Rattle.state.specs.Table.{pairRow, rowsOf, table}
 use Rattle.state.specs.Check.{isSome, legalLog, legalGathered, zeros, checkedHead, checkedTable}
-use Rattle.rows.proofs.BoolLaws.{and-first, and-second, and-both, each-holds, same-test}
+use Rattle.kinds.proofs.BoolLaws.{and-first, and-second, and-both, each-holds, same-test}
 use Rattle.rows.proofs.ListLaws.{bytesOf-append}
 use Rattle.rows.proofs.PartLaws.{drop-bytes}
 use Rattle.state.proofs.HeadLaws.{flags-are, voter-part, bytes-headIn}
 use Rattle.rows.proofs.RowLaws.{rowsIn-length, rowsIn-map, bytes-rowsIn}
 use Rattle.state.proofs.LegalLaws.{IsKept, is-none, legalKept-is, legalCandidate-is, legalLeader-is, Held, legal-held}
-use Rattle.state.proofs.ImageLaws.{image-is, same-is, is-same, image-head, image-log, image-gathered, image-unused}
+use Rattle.state.proofs.ImageLaws.{image-is, image-head, image-log, image-gathered, image-unused}
+use Rattle.kinds.specs.Same.{same}
+use Rattle.kinds.proofs.SameLaws.{same-is, is-same}
 
 -- ---- lists over the seven hubs
 

@@ -20,7 +20,7 @@ use Rattle.state.specs.Legal.{all}
 use Rattle.rows.specs.Rows.{bytesOf}
 use Rattle.state.specs.Image.{head-size, confirmedOf, flags, wordsIn, headBytes}
 use Rattle.state.specs.Head.{headIn, isFlag, placeBytes, bytesOfHead, numberBytes, headOf}
-use Rattle.rows.proofs.BoolLaws.{and-first, and-second}
+use Rattle.kinds.proofs.BoolLaws.{and-first, and-second}
 use Rattle.rows.proofs.ListLaws.{sets-then, bytesOf-length, bytesOf-map}
 use Rattle.rows.proofs.PartLaws.{wordAt-drop, part-front, part-behind, part-split, byte-part, wordAt-behind, drop-behind, drop-bytes}
 

@@ -19,16 +19,17 @@ use Rattle.state.specs.declared.Head.{Head}
 use Rattle.state.specs.State.{Kept, Lost, follower, candidate, leader, State, fresh}
 use Rattle.state.specs.Legal.{all, legalKept, legalLost, legalState}
 use Rattle.rows.specs.Rows.{bytesOf, rowsIn, entryOf, Row, rowBytes, entryRow}
-use Rattle.state.specs.Image.{head-size, state-size, roleOf, votersOf, gatheredOf, confirmedOf, flags, logRow, gatheredRow, headBytes, image, pairOf, keptIn, wordsIn, lostIn, stateIn, same, readState, readKept}
+use Rattle.state.specs.Image.{head-size, state-size, roleOf, votersOf, gatheredOf, confirmedOf, flags, logRow, gatheredRow, headBytes, image, pairOf, keptIn, wordsIn, lostIn, stateIn, readState, readKept}
 use Rattle.state.specs.Head.{headIn, bytesOfHead, headOf}
 use Rattle.state.specs.Table.{pairRow, rowsOf, table}
-use Rattle.rows.proofs.BoolLaws.{and-first, and-second, and-both}
+use Rattle.kinds.proofs.BoolLaws.{and-first, and-second, and-both}
 use Rattle.rows.proofs.ListLaws.{bytesOf-append, bytesOf-map}
 use Rattle.rows.proofs.PartLaws.{drop-behind, wordAt-drop, part-drop}
 use Rattle.state.proofs.HeadLaws.{bytesOfHead-length, headIn-bytes, headBytes-is}
 use Rattle.rows.proofs.RowLaws.{rowFits, row-number, row-part-command, rowsIn-bytes, rows-length, entries-back}
 use Rattle.state.proofs.TableLaws.{pairs-back, table-length, table-row}
 use Rattle.state.proofs.LegalLaws.{Held, legal-held, all-member, all-append}
+use Rattle.kinds.specs.Same.{same}
 
 -- ---- the parts of an image
 
@@ -48,26 +49,6 @@ image-is s =
       length-map gs pairRow,
     )
     (ap (λ (r : List ℕ). bytesOfHead (headOf (s .kept) (s .lost)) ++ r) (sym (append-assoc (bytesOf logRow es) (bytesOf gatheredRow gs) _)))
-
--- Two lists that pass the test are the same.
-pub same-is : (xs ys : List ℕ) → same xs ys ≡ true → xs ≡ ys
-unfolding same
-same-is [] [] h = refl
-same-is [] (y ∷ ys) h = cc
-same-is (x ∷ xs) [] h = cc
-same-is (x ∷ xs) (y ∷ ys) h =
-    let e = eqb-true x y (and-first (eqb x y) (same xs ys) h) in
-    let t = same-is xs ys (and-second (eqb x y) (same xs ys) h) in
-    cc
-
-same-self : (xs : List ℕ) → same xs xs ≡ true
-unfolding same
-same-self [] = refl
-same-self (x ∷ xs) = and-both (eq-eqb x x refl) (same-self xs)
-
--- Two lists that are the same pass the test.
-pub is-same : (xs ys : List ℕ) → xs ≡ ys → same xs ys ≡ true
-is-same xs ys e = rw e (same-self ys)
 
 module _ (s : State) (h : Held s) where
   head-long : length (bytesOfHead (headOf (s .kept) (s .lost))) ≡ head-size

@@ -18,7 +18,7 @@ use Rattle.rows.specs.Rows.{bytesOf, row, entryOf, Row, rowBytes, entryRow, row
 use Rattle.state.specs.Image.{head-size, state-size, votersOf, gatheredOf, confirmedOf, image, keptIn, readKept}
 use Rattle.state.specs.Head.{bytesOfHead, headOf}
 use Rattle.state.specs.Table.{rowsOf, table}
-use Rattle.rows.proofs.BoolLaws.{and-both}
+use Rattle.kinds.proofs.BoolLaws.{and-both}
 use Rattle.rows.proofs.ListLaws.{sets-skip, sets-front, sets-last}
 use Rattle.rows.proofs.PartLaws.{drop-bytes}
 use Rattle.state.proofs.HeadLaws.{bytesOfHead-length}

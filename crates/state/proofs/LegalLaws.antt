@@ -20,7 +20,7 @@ use Rattle.state.specs.Image.{votersOf, gatheredOf, confirmedOf}
 use Rattle.state.specs.Head.{headOf}
 use Rattle.rows.specs.Rows.{entryRow}
 use Rattle.state.specs.Table.{pairRow, rowsOf}
-use Rattle.rows.proofs.BoolLaws.{and-first, and-second, and-both, each-holds, or-either, or-one}
+use Rattle.kinds.proofs.BoolLaws.{and-first, and-second, and-both, each-holds, or-either, or-one}
 use Rattle.state.proofs.HeadLaws.{Fits, placeFits}
 use Rattle.rows.proofs.RowLaws.{rowFits, entries-fit}
 use Rattle.state.proofs.TableLaws.{pairs-fit}

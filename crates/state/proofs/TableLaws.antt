@@ -19,7 +19,7 @@ use Rattle.rows.specs.Rows.{bytesOf, row, Row, rowBytes}
 use Rattle.state.specs.Image.{pairOf}
 use Rattle.state.specs.Table.{pairRow, table}
 use Rattle.rows.proofs.RowLaws.{rowBytes-length, rows-length, rowFits}
-use Rattle.rows.proofs.BoolLaws.{and-first, and-second, and-both}
+use Rattle.kinds.proofs.BoolLaws.{and-first, and-second, and-both}
 use Rattle.rows.proofs.ListLaws.{sets-skip, bytesOf-append}
 use Rattle.rows.proofs.PartLaws.{drop-behind}
 

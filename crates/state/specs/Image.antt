@@ -14,6 +14,7 @@ use Rattle.rows.specs.Rows.{bytesOf, row, rowsIn, entryOf}
 use Rattle.state.specs.State.{Kept, Pair, Lost, follower, candidate, leader, State, reportedAt}
 use Rattle.state.specs.Legal.{legalKept, legalState}
 use Rattle.kinds.specs.Role.{as-follower, as-candidate, as-leader}
+use Rattle.kinds.specs.Same.{same}
 
 -- ---- sizes and places of the layout
 
@@ -103,12 +104,6 @@ unfoldable pub stateIn : List ℕ → State
 stateIn l = record { kept = keptIn l; lost = lostIn (wordAt 20 1 l) l }
 
 -- ---- reading: one image for each state
-
-unfoldable pub same : List ℕ → List ℕ → Bool
-same [] [] = true
-same [] (y ∷ ys) = false
-same (x ∷ xs) [] = false
-same (x ∷ xs) (y ∷ ys) = eqb x y && same xs ys
 
 -- The legal state whose image these bytes are, if there is one.
 unfoldable pub readState : Who → List ℕ → Option State

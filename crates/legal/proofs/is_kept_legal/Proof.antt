@@ -9,7 +9,7 @@ use Rattle.state.specs.Image.{head-size}
 use Rattle.state.specs.Head.{keptHead}
 use Rattle.state.specs.Check.{legalLog}
 use borrow.Author.Needs.{needs}
-use Rattle.rows.proofs.BoolLaws.{and-fails, and-holds}
+use Rattle.kinds.proofs.BoolLaws.{and-fails, and-holds}
 use Rattle.state.proofs.CheckLaws.{keptPart-checked, kept-length, size-least}
 use Rattle.legal.proofs.CheckSteps.{kept-room, rows-within}
 use Rattle.legal.proofs.is_kept_legal.Statement.{statement}

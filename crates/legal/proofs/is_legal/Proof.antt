@@ -5,7 +5,7 @@ use native.Mathlib.Omega.{arith}
 use denote.Ref.{now}
 use borrow.Author.Needs.{needs}
 use Rattle.state.specs.Check.{who}
-use Rattle.rows.proofs.BoolLaws.{and-fails, and-holds}
+use Rattle.kinds.proofs.BoolLaws.{and-fails, and-holds}
 use Rattle.state.proofs.CheckLaws.{state-checked, state-length, size-least}
 use Rattle.legal.proofs.CheckSteps.{head-room}
 use Rattle.legal.proofs.is_legal.Statement.{statement}

@@ -6,11 +6,11 @@ use mathlib.Core.Path.{_∙_, ap}
 use mathlib.Core.List.{List}
 use borrow.Author.Needs.{needs}
 use lib.ListN.{length}
-use Rattle.state.specs.Image.{same}
 use Rattle.numbers.specs.Numbers.{message-numbers}
 use Rattle.numbers.proofs.NumbersLaws.{Alike, alike-first, alike-all, alike-not, alike-again, numbers-eight}
 use Rattle.numbers.proofs.are_numbers.Statement.{statement}
 use Rattle.numbers.proofs.are_numbers.Tie as tie
+use Rattle.kinds.specs.Same.{same}
 
 abbrev Inv-loop : tie.InvT-loop
 Inv-loop numbers own i₀ i = Alike own numbers i

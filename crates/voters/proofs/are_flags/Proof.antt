@@ -3,7 +3,7 @@ use denote.Ref.{now}
 use borrow.Author.Needs.{needs}
 use Rattle.state.specs.Legal.{all}
 use Rattle.state.specs.Head.{isFlag}
-use Rattle.rows.proofs.BoolLaws.{and-alone}
+use Rattle.kinds.proofs.BoolLaws.{and-alone}
 use Rattle.rows.proofs.PartLaws.{part-seven}
 use Rattle.voters.proofs.are_flags.Statement.{statement}
 use Rattle.voters.proofs.are_flags.Tie as tie
