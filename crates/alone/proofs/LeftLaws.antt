@@ -17,11 +17,11 @@ use Rattle.message.specs.Write.{messageWith}
 use Rattle.message.specs.declared.Fields.{Fields}
 use Rattle.numbers.specs.Numbers.{message-numbers, numbersOf, numbersIn, fieldsWith, areFields}
 use Rattle.numbers.proofs.NumbersLaws.{numbers-same, fields-numbers, other-count}
-use Rattle.alone.specs.Written.{Written, written, outcomeOf, bytesOf, Writes}
+use Rattle.alone.specs.Written.{Written, writtenBy, writeOutcome, writeBytes, WritesText}
 use Rattle.alone.specs.declared.Write.{Write}
 use Rattle.alone.specs.declared.Write.the-variants.{Message as Write·Message}
-use Rattle.alone.specs.Told.{tellsRead, tells}
-use Rattle.alone.specs.Left.{writes, Leaves}
+use Rattle.alone.specs.Told.{tellsRead, numbersTold}
+use Rattle.alone.specs.Left.{writes, IsLeft}
 use Rattle.alone.proofs.WrittenLaws.{written-back, written-fits}
 use Rattle.kinds.proofs.SameLaws.{same-is, is-same}
 
@@ -29,7 +29,7 @@ use Rattle.kinds.proofs.SameLaws.{same-is, is-same}
 
 module _ (ns rows out : List ℕ) where
   -- The output is too short.
-  pub leaves-short : (room : ℕ) → room ≡ text-room → length out < room → Leaves (writes ns rows out) short-output out
+  pub leaves-short : (room : ℕ) → room ≡ text-room → length out < room → IsLeft (writes ns rows out) short-output out
   unfolding writes
   leaves-short room e h = rw (lt-ltb (length out) text-room (omega (arith, e, h))) (record { returned = refl; left = refl })
 
@@ -37,55 +37,55 @@ module _ (ns rows out : List ℕ) where
     not-short : ltb (length out) text-room ≡ false
     not-short = le-ltb (length out) text-room (omega (arith, e, long))
 
-    not-fields : areFields ns ≡ false → Leaves (writes ns rows out) bad-message out
+    not-fields : areFields ns ≡ false → IsLeft (writes ns rows out) bad-message out
     unfolding writes
     not-fields h = rw (not-short, h) (record { returned = refl; left = refl })
 
     -- There are not eight numbers.
-    pub leaves-count : (length ns ≡ message-numbers → ⊥) → Leaves (writes ns rows out) bad-message out
+    pub leaves-count : (length ns ≡ message-numbers → ⊥) → IsLeft (writes ns rows out) bad-message out
     leaves-count h = not-fields (other-count ns h)
 
     module _ (t : Bool) (tested : t ≡ areFields ns) where
       -- They are not those of their fields.
-      pub leaves-others : t ≡ false → Leaves (writes ns rows out) bad-message out
+      pub leaves-others : t ≡ false → IsLeft (writes ns rows out) bad-message out
       leaves-others h = not-fields (sym tested ∙ h)
 
-      module _ (yes : t ≡ true) (f : Fields) (f= : f ≡ fieldsWith ns) {r : Write} {after : List ℕ} (w : Writes (written f rows out) r after) where
-        writes-is : writes ns rows out ≡ written f rows out
+      module _ (yes : t ≡ true) (f : Fields) (f= : f ≡ fieldsWith ns) {r : Write} {after : List ℕ} (w : WritesText (writtenBy f rows out) r after) where
+        writes-is : writes ns rows out ≡ writtenBy f rows out
         unfolding writes
         writes-is = rw (not-short, sym tested ∙ yes, f=)
 
         -- The answer of the writer is told.
-        pub leaves-answer : {a : Write} {n : ℕ} → r ≡ a → n ≡ packed (outcomeOf a) (bytesOf a) → Leaves (writes ns rows out) n after
+        pub leaves-answer : {a : Write} {n : ℕ} → r ≡ a → n ≡ packed (writeOutcome a) (writeBytes a) → IsLeft (writes ns rows out) n after
         leaves-answer q p =
             rw writes-is
             (record {
-              returned = p ∙ ap (λ (x : Write). packed (outcomeOf x) (bytesOf x)) (sym q) ∙ rw (w .outcome-is, w .bytes-is);
+              returned = p ∙ ap (λ (x : Write). packed (writeOutcome x) (writeBytes x)) (sym q) ∙ rw (w .outcome-is, w .bytes-is);
               left = w .out-is;
             })
 
         -- How many bytes the text has fits the upper half.
         pub bytes-small : {n : ℕ} → r ≡ Write·Message n → n < half
         bytes-small {n} q =
-            let told : written f rows out .outcome ≡ done = sym (w .outcome-is) ∙ ap (λ (x : Write). outcomeOf x) q in
-            let n= : n ≡ written f rows out .bytes = sym (ap (λ (x : Write). bytesOf x) q) ∙ w .bytes-is in
+            let told : writtenBy f rows out .outcome ≡ done = sym (w .outcome-is) ∙ ap (λ (x : Write). writeOutcome x) q in
+            let n= : n ≡ writtenBy f rows out .bytes = sym (ap (λ (x : Write). writeBytes x) q) ∙ w .bytes-is in
             omega (arith, n=, written-fits f rows out told, room-small)
 
 -- Two answers that meet the promise of writing a message are the same.
-pub leaves-unique : {w : Written} {r r′ : ℕ} {out out′ : List ℕ} → Leaves w r out → Leaves w r′ out′ → (r ≡ r′) × (out ≡ out′)
+pub leaves-unique : {w : Written} {r r′ : ℕ} {out out′ : List ℕ} → IsLeft w r out → IsLeft w r′ out′ → (r ≡ r′) × (out ≡ out′)
 leaves-unique p q = (p .returned ∙ sym (q .returned), p .left ∙ sym (q .left))
 
 -- ---- a message's own numbers
 
 -- Every message can be written by its numbers.
-pub writes-numbers : (f : Fields) (rows out : List ℕ) → text-room ≤ length out → writes (numbersIn f) rows out ≡ written f rows out
+pub writes-numbers : (f : Fields) (rows out : List ℕ) → text-room ≤ length out → writes (numbersIn f) rows out ≡ writtenBy f rows out
 unfolding writes areFields
 writes-numbers f rows out h = rw (le-ltb (length out) text-room h, fields-numbers f, is-same (numbersIn f) (numbersIn f) refl)
 
 -- ---- what is written is read back
 
 module _ (ns rows out : List ℕ) where
-  is-written : writes ns rows out .outcome ≡ done → (areFields ns ≡ true) × (writes ns rows out ≡ written (fieldsWith ns) rows out)
+  is-written : writes ns rows out .outcome ≡ done → (areFields ns ≡ true) × (writes ns rows out ≡ writtenBy (fieldsWith ns) rows out)
   unfolding writes
   is-written told =
       by-test (ltb (length out) text-room)
@@ -101,9 +101,9 @@ module _ (ns rows out : List ℕ) where
 
   -- Reading the bytes that were written tells the numbers that were given.
   pub written-told : (lent : List ℕ) → writes ns rows out .outcome ≡ done → message-numbers ≤ length lent →
-      (tells (take (writes ns rows out .bytes) (writes ns rows out .out)) lent .outcome ≡ done)
-      × (tells (take (writes ns rows out .bytes) (writes ns rows out .out)) lent .numbers ≡ ns ++ drop message-numbers lent)
-  unfolding tells tellsRead areFields
+      (numbersTold (take (writes ns rows out .bytes) (writes ns rows out .out)) lent .outcome ≡ done)
+      × (numbersTold (take (writes ns rows out .bytes) (writes ns rows out .out)) lent .numbers ≡ ns ++ drop message-numbers lent)
+  unfolding numbersTold tellsRead areFields
   written-told lent told h =
       let w = is-written told in
       let f = fieldsWith ns in

@@ -21,15 +21,15 @@ use Rattle.reader.specs.Answer.{readAs}
 use Rattle.reader.specs.declared.Read.the-variants.{Message as Read·Message, Refused}
 use Rattle.numbers.specs.Numbers.{message-numbers, numbersOf, numbersIn}
 use Rattle.numbers.proofs.NumbersLaws.{numbers-same, numbers-eight}
-use Rattle.alone.specs.Told.{Told, tellsNot, tellsRead, tells, Tells}
+use Rattle.alone.specs.Told.{Told, tellsNot, tellsRead, numbersTold, Tells}
 
 refused-never : {f : Fields} {n : ℕ} → Refused ≡ Read·Message f n → ⊥
 refused-never e = let z : _≡_ {A = ℕ} 0 1 = cc in omega arith
 
 module _ (s numbers : List ℕ) where
   -- Fewer than eight numbers are lent.
-  pub tells-short : length numbers < message-numbers → Tells (tells s numbers) short-output numbers
-  unfolding tells
+  pub tells-short : length numbers < message-numbers → Tells (numbersTold s numbers) short-output numbers
+  unfolding numbersTold
   tells-short h = rw (lt-ltb (length numbers) message-numbers h) (record { returned = refl; left = refl })
 
   refused-is : (o : Option Message) → readAs s o ≡ Refused → tellsRead s numbers o ≡ tellsNot bad-message numbers
@@ -38,8 +38,8 @@ module _ (s numbers : List ℕ) where
   refused-is (some m) e = cc
 
   -- The text is no legal message.
-  pub tells-refused : message-numbers ≤ length numbers → readAs s (read s) ≡ Refused → Tells (tells s numbers) bad-message numbers
-  unfolding tells
+  pub tells-refused : message-numbers ≤ length numbers → readAs s (read s) ≡ Refused → Tells (numbersTold s numbers) bad-message numbers
+  unfolding numbersTold
   tells-refused h e = rw (le-ltb (length numbers) message-numbers h, refused-is (read s) e) (record { returned = refl; left = refl })
 
   read-is : (o : Option Message) (f : Fields) (n : ℕ) → readAs s o ≡ Read·Message f n →
@@ -54,8 +54,8 @@ module _ (s numbers : List ℕ) where
 
   -- Its numbers are put.
   pub tells-message : {left : List ℕ} (f : Fields) (n : ℕ) → message-numbers ≤ length numbers → readAs s (read s) ≡ Read·Message f n
-      → left ≡ sets numbers 0 (numbersIn f) → {r : ℕ} → r ≡ packed done n → Tells (tells s numbers) r left
-  unfolding tells
+      → left ≡ sets numbers 0 (numbersIn f) → {r : ℕ} → r ≡ packed done n → Tells (numbersTold s numbers) r left
+  unfolding numbersTold
   tells-message f n h e put returned =
       let eight = numbers-eight f in
       let written : sets numbers 0 (numbersIn f) ≡ numbersIn f ++ drop (length (numbersIn f)) numbers =

@@ -27,27 +27,27 @@ use Rattle.message.proofs.AnswerLaws.{fields-back}
 use Rattle.message.proofs.ReadLaws.{text-most, read-text}
 use Rattle.alone.specs.declared.Write.{Write}
 use Rattle.alone.specs.declared.Write.the-variants.{Message, Short, Illegal}
-use Rattle.alone.specs.Written.{isMessage, Written, writtenText, written, outcomeOf, bytesOf, Writes}
+use Rattle.alone.specs.Written.{isMessage, Written, writtenText, writtenBy, writeOutcome, writeBytes, WritesText}
 
 -- ---- each way through the code
 
 module _ (f : Fields) (rows out : List ℕ) (room : ℕ) (r= : room ≡ text-room) where
   -- The output is too short.
-  pub written-short : length out < room → Writes (written f rows out) Short out
-  unfolding written
+  pub written-short : length out < room → WritesText (writtenBy f rows out) Short out
+  unfolding writtenBy
   written-short h = rw (lt-ltb (length out) text-room (omega (arith, r=, h))) (record { outcome-is = refl; bytes-is = refl; out-is = refl })
 
   module _ (long : room ≤ length out) where
     not-short : ltb (length out) text-room ≡ false
     not-short = le-ltb (length out) text-room (omega (arith, r=, long))
 
-    refused : isMessage f rows ≡ false → Writes (written f rows out) Illegal out
-    unfolding written
+    refused : isMessage f rows ≡ false → WritesText (writtenBy f rows out) Illegal out
+    unfolding writtenBy
     refused h = rw (not-short, h) (record { outcome-is = refl; bytes-is = refl; out-is = refl })
 
     module _ (count : ℕ) (e : count ≡ manyIn (f .body)) where
       -- There are fewer rows than entries, or more.
-      pub written-unheld : (length rows ≡ count * row-size → ⊥) → Writes (written f rows out) Illegal out
+      pub written-unheld : (length rows ≡ count * row-size → ⊥) → WritesText (writtenBy f rows out) Illegal out
       unfolding isMessage
       written-unheld h = refused (rw (ne-eqb (length rows) (manyIn (f .body) * row-size) (λ q. h (q ∙ ap (λ (n : ℕ). n * row-size) (sym e)))))
 
@@ -62,7 +62,7 @@ module _ (f : Fields) (rows out : List ℕ) (room : ℕ) (r= : room ≡ text-roo
 
         module _ (r : Bool) (tested : r ≡ legalMessage (messageWith f rows)) where
           -- The message is not legal.
-          pub written-illegal : r ≡ false → Writes (written f rows out) Illegal out
+          pub written-illegal : r ≡ false → WritesText (writtenBy f rows out) Illegal out
           written-illegal h = refused (legal-decides ∙ sym tested ∙ h)
 
           module _ (legal : r ≡ true) where
@@ -71,8 +71,8 @@ module _ (f : Fields) (rows out : List ℕ) (room : ℕ) (r= : room ≡ text-roo
             written-puts = record { legal = sym tested ∙ legal; held = rows-held; room = omega (arith, r=, long) }
 
             -- It is written.
-            pub written-message : {n : ℕ} {after : List ℕ} → Wrote out 0 (text (messageWith f rows)) n after → Writes (written f rows out) (Message n) after
-            unfolding written
+            pub written-message : {n : ℕ} {after : List ℕ} → Wrote out 0 (text (messageWith f rows)) n after → WritesText (writtenBy f rows out) (Message n) after
+            unfolding writtenBy
             written-message w =
                 let s = text (messageWith f rows) in
                 let fits : 0 + length s ≤ length out = omega (arith, text-most (messageWith f rows) (written-puts .legal), written-puts .room) in
@@ -85,7 +85,7 @@ module _ (f : Fields) (rows out : List ℕ) (room : ℕ) (r= : room ≡ text-roo
 
 -- ---- no second answer
 
-answers-same : (r r′ : Write) → outcomeOf r ≡ outcomeOf r′ → bytesOf r ≡ bytesOf r′ → r ≡ r′
+answers-same : (r r′ : Write) → writeOutcome r ≡ writeOutcome r′ → writeBytes r ≡ writeBytes r′ → r ≡ r′
 answers-same (Message n) (Message m) p q = ap Message q
 answers-same (Message n) Short p q = absurd (omega arith)
 answers-same (Message n) Illegal p q = absurd (omega arith)
@@ -97,7 +97,7 @@ answers-same Illegal Short p q = absurd (omega arith)
 answers-same Illegal Illegal p q = refl
 
 -- Two answers that meet the promise of writing a message are the same.
-pub writes-unique : {w : Written} {r r′ : Write} {out out′ : List ℕ} → Writes w r out → Writes w r′ out′ → (r ≡ r′) × (out ≡ out′)
+pub writes-unique : {w : Written} {r r′ : Write} {out out′ : List ℕ} → WritesText w r out → WritesText w r′ out′ → (r ≡ r′) × (out ≡ out′)
 writes-unique {w} {r} {r′} p q =
     (answers-same r r′ (p .outcome-is ∙ sym (q .outcome-is)) (p .bytes-is ∙ sym (q .bytes-is)), p .out-is ∙ sym (q .out-is))
 
@@ -113,8 +113,8 @@ module _ (f : Fields) (rows out : List ℕ) where
   s = text (messageWith f rows)
 
   -- Where the outcome is 0 there is a message, and its text is written.
-  is-written : written f rows out .outcome ≡ done → (legalMessage (messageWith f rows) ≡ true) × (written f rows out ≡ writtenText s out)
-  unfolding written isMessage
+  is-written : writtenBy f rows out .outcome ≡ done → (legalMessage (messageWith f rows) ≡ true) × (writtenBy f rows out ≡ writtenText s out)
+  unfolding writtenBy isMessage
   is-written told =
       by-test (ltb (length out) text-room)
       (λ short.
@@ -128,7 +128,7 @@ module _ (f : Fields) (rows out : List ℕ) where
       absurd (omega arith)))
 
   -- The bytes that were written are read back.
-  pub written-back : written f rows out .outcome ≡ done → ReadBack f rows (take (written f rows out .bytes) (written f rows out .out))
+  pub written-back : writtenBy f rows out .outcome ≡ done → ReadBack f rows (take (writtenBy f rows out .bytes) (writtenBy f rows out .out))
   unfolding messageWith
   written-back told =
       let w = is-written told in
@@ -136,11 +136,11 @@ module _ (f : Fields) (rows out : List ℕ) where
       (record { read-is = read-text (messageWith f rows) (w .0); fields-are = fields-back f (rowEntries (manyIn (f .body)) rows) (rowsIn-length entryOf (manyIn (f .body)) rows) })
 
   -- They are no more than an output has room for.
-  pub written-fits : written f rows out .outcome ≡ done → written f rows out .bytes ≤ text-room
+  pub written-fits : writtenBy f rows out .outcome ≡ done → writtenBy f rows out .bytes ≤ text-room
   written-fits told =
       let w = is-written told in
       rw (w .1) (text-most (messageWith f rows) (w .0))
 
   -- Of what `write_message` leaves, the bytes that it answers are read back.
-  pub writes-back : {after : List ℕ} {n : ℕ} → Writes (written f rows out) (Message n) after → ReadBack f rows (take n after)
+  pub writes-back : {after : List ℕ} {n : ℕ} → WritesText (writtenBy f rows out) (Message n) after → ReadBack f rows (take n after)
   writes-back w = rw (w .bytes-is, w .out-is) (written-back (sym (w .outcome-is)))

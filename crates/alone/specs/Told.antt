@@ -28,8 +28,8 @@ tellsRead s numbers (some m) =
     record { outcome = done; entries = partFrom s (some m); numbers = numbersOf m ++ drop message-numbers numbers }
 
 -- Fewer than eight lent numbers are told first.
-unfoldable pub tells : List ℕ → List ℕ → Told
-tells s numbers = cond (ltb (length numbers) message-numbers) (tellsNot short-output numbers) (tellsRead s numbers (read s))
+unfoldable pub numbersTold : List ℕ → List ℕ → Told
+numbersTold s numbers = cond (ltb (length numbers) message-numbers) (tellsNot short-output numbers) (tellsRead s numbers (read s))
 
 -- The outcome in the lower half of what is returned, where the entry lines begin in the upper one; and the numbers left.
 pub record Tells (t : Told) (r : ℕ) (numbers : List ℕ) : Type 0 where

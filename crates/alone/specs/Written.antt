@@ -35,26 +35,26 @@ abbrev pub writtenText : List ℕ → List ℕ → Written
 writtenText s out = record { outcome = done; bytes = length s; out = s ++ drop (length s) out }
 
 -- Too short an output is told first, then what is no message.
-unfoldable pub written : Fields → List ℕ → List ℕ → Written
-written f rows out =
+unfoldable pub writtenBy : Fields → List ℕ → List ℕ → Written
+writtenBy f rows out =
     cond (ltb (length out) text-room) (unwritten short-output out)
     (cond (isMessage f rows) (writtenText (text (messageWith f rows)) out) (unwritten bad-message out))
 
 -- ---- the promise
 
 -- The outcome of each case of the answer, and the bytes of the text.
-abbrev pub outcomeOf : Write → ℕ
-outcomeOf (Message n) = done
-outcomeOf Short = short-output
-outcomeOf Illegal = bad-message
+abbrev pub writeOutcome : Write → ℕ
+writeOutcome (Message n) = done
+writeOutcome Short = short-output
+writeOutcome Illegal = bad-message
 
-abbrev pub bytesOf : Write → ℕ
-bytesOf (Message n) = n
-bytesOf Short = 0
-bytesOf Illegal = 0
+abbrev pub writeBytes : Write → ℕ
+writeBytes (Message n) = n
+writeBytes Short = 0
+writeBytes Illegal = 0
 
 -- An answer and what is left in the output are as they have to be.
-pub record Writes (w : Written) (r : Write) (out : List ℕ) : Type 0 where
-  pub outcome-is : outcomeOf r ≡ w .outcome
-  pub bytes-is : bytesOf r ≡ w .bytes
+pub record WritesText (w : Written) (r : Write) (out : List ℕ) : Type 0 where
+  pub outcome-is : writeOutcome r ≡ w .outcome
+  pub bytes-is : writeBytes r ≡ w .bytes
   pub out-is : out ≡ w .out

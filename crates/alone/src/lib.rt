@@ -1,7 +1,7 @@
 // Messages read and written alone, as rule R35 has it, from the code's own fields and from eight numbers. What is to be written is tested first.
-ghost use Rattle.alone.specs.Written.{written, Writes};
-ghost use Rattle.alone.specs.Told.{Tells, tells};
-ghost use Rattle.alone.specs.Left.{Leaves, writes};
+ghost use Rattle.alone.specs.Written.{writtenBy, WritesText};
+ghost use Rattle.alone.specs.Told.{Tells, numbersTold};
+ghost use Rattle.alone.specs.Left.{IsLeft, writes};
 use message::Fields;
 use reader::Read;
 
@@ -15,7 +15,7 @@ pub enum Write {
 // Writes a message's text at the start of `out`, its entries from the rows. A refusal (too short an output; not a row for each entry, or a
 // message that is not legal) leaves every byte.
 pub fn write_message(f: Fields, rows: &[u8], out: &mut [u8]) -> Write
-    ensures { λ r. ⌜ Writes (written f (now (rows .entry)) (now (out .entry))) r (now (out .exit)) ⌝ }
+    ensures { λ r. ⌜ WritesText (writtenBy f (now (rows .entry)) (now (out .entry))) r (now (out .exit)) ⌝ }
 {
     if out.len() < kinds::text_room() {
         return Write::Short;
@@ -36,7 +36,7 @@ pub fn write_message(f: Fields, rows: &[u8], out: &mut [u8]) -> Write
 // Reads a message's text into the first eight lent numbers. The upper half of what is returned is where the entry lines begin in the text; they go
 // to its end. A refusal (fewer than eight numbers lent; not a legal message) leaves all numbers, and its upper half is 0.
 pub fn read_numbers(text: &[u8], numbers: &mut [u32]) -> u64
-    ensures { λ r. ⌜ Tells (tells (now (text .entry)) (now (numbers .entry))) r (now (numbers .exit)) ⌝ }
+    ensures { λ r. ⌜ Tells (numbersTold (now (text .entry)) (now (numbers .entry))) r (now (numbers .exit)) ⌝ }
 {
     if numbers.len() < numbers::MANY {
         return kinds::SHORT_OUTPUT as u64;
@@ -52,7 +52,7 @@ pub fn read_numbers(text: &[u8], numbers: &mut [u32]) -> u64
 // many bytes the text has. A refusal (too short an output; not the numbers of a type, not a row for each entry, or not a legal message) leaves
 // every byte, and its upper half is 0.
 pub fn write_numbers(numbers: &[u32], rows: &[u8], out: &mut [u8]) -> u64
-    ensures { λ r. ⌜ Leaves (writes (now (numbers .entry)) (now (rows .entry)) (now (out .entry))) r (now (out .exit)) ⌝ }
+    ensures { λ r. ⌜ IsLeft (writes (now (numbers .entry)) (now (rows .entry)) (now (out .entry))) r (now (out .exit)) ⌝ }
 {
     if out.len() < kinds::text_room() {
         return kinds::SHORT_OUTPUT as u64;

@@ -8,32 +8,32 @@ use lib.ListN.{replicate, drop}
 use Rattle.text.specs.Ascii.{ascii}
 use Rattle.state.specs.State.{State, Pair, fresh}
 use Rattle.state.specs.Image.{image}
-use Rattle.rules.specs.Row.{Row, AllHold}
+use Rattle.rules.specs.Row.{CaseRow, AllHold}
 use Rattle.rules.specs.Samples.{
   buzz,
   buzzing,
   buzzBytes,
   ms250,
-  half,
-  entry,
+  halfGain,
+  buzzEntry,
   kept,
-  following,
-  standing,
-  leading,
-  first,
+  followerWith,
+  candidateWith,
+  leaderWith,
+  hub1Alone,
   confirmed,
   elected,
   withOne,
   wholeAppend,
   yes-text,
   end-text,
-  at,
+  stepRow,
   does,
   refused,
 }
 
 -- A row with another size of output.
-abbrev pub roomFor : ℕ → Row → Row
+abbrev pub roomFor : ℕ → CaseRow → CaseRow
 roomFor n r =
     record {
       case = r .case;
@@ -50,56 +50,56 @@ roomFor n r =
     }
 
 -- Hub 1 stands for term 5 with one entry at ballot 1; hub 2 follows at term 5; hub 1 leads term 5 with two entries.
-abbrev pub stands : State
-stands = standing (kept 5 1 0 (entry 1 ∷ [])) first []
+abbrev pub aCandidate : State
+aCandidate = candidateWith (kept 5 1 0 (buzzEntry 1 ∷ [])) hub1Alone []
 
-abbrev pub follows : State
-follows = following (kept 5 1 0 (entry 1 ∷ []))
+abbrev pub aFollower : State
+aFollower = followerWith (kept 5 1 0 (buzzEntry 1 ∷ []))
 
-abbrev pub leads : State
-leads = leading (kept 5 5 0 (entry 1 ∷ entry 5 ∷ [])) (confirmed 2 1)
+abbrev pub aLeader : State
+aLeader = leaderWith (kept 5 5 0 (buzzEntry 1 ∷ buzzEntry 5 ∷ [])) (confirmed 2 1)
 
 -- Two of five voters have been seen, and one command was gathered at ballot 2.
 abbrev pub five : State
-five = standing (kept 5 3 0 []) (true ∷ true ∷ replicate 5 false) (record { ballot = 2; command = buzz } ∷ [])
+five = candidateWith (kept 5 3 0 []) (true ∷ true ∷ replicate 5 false) (record { ballot = 2; command = buzz } ∷ [])
 
 -- Hub 2 follows the leader of term 5 and has two of its entries.
 abbrev pub keepsUp : State
-keepsUp = following (kept 5 5 0 (entry 1 ∷ entry 5 ∷ []))
+keepsUp = followerWith (kept 5 5 0 (buzzEntry 1 ∷ buzzEntry 5 ∷ []))
 
 -- The home of the first shortcut: entry terms 1 and 2 at ballot 4.
 abbrev pub chosenTwo : State
-chosenTwo = following (kept 4 4 2 (entry 1 ∷ entry 2 ∷ []))
+chosenTwo = followerWith (kept 4 4 2 (buzzEntry 1 ∷ buzzEntry 2 ∷ []))
 
-unfoldable pub examples : List Row
+unfoldable pub examples : List CaseRow
 examples =
     -- 0: a restart sees the kept parts alone, whatever stands in the lost ones
-    does 0 1 4 (leading (kept 5 1 1 (entry 1 ∷ [])) (confirmed 200 0)) [] (following (kept 5 1 1 (entry 1 ∷ []))) []
+    does 0 1 4 (leaderWith (kept 5 1 1 (buzzEntry 1 ∷ [])) (confirmed 200 0)) [] (followerWith (kept 5 1 1 (buzzEntry 1 ∷ []))) []
     -- 0: a higher term makes the hub its follower, whatever follows
-    ∷ does 0 1 5 leads (ascii "type=append-no\nterm=6\nfrom=2\nto=1\nlength=0\n") (following (kept 6 5 0 (entry 1 ∷ entry 5 ∷ []))) []
+    ∷ does 0 1 5 aLeader (ascii "type=append-no\nterm=6\nfrom=2\nto=1\nlength=0\n") (followerWith (kept 6 5 0 (buzzEntry 1 ∷ buzzEntry 5 ∷ []))) []
     -- 0: of two gathered pairs the greater ballot stays, and a majority leads
-    ∷ at 0 1 5 5 0 0 (image five)
+    ∷ stepRow 0 1 5 5 0 0 (image five)
     (ascii "type=vote-yes\nterm=5\nfrom=3\nto=1\nlast=0\nballot=3\ncount=2\nentry=2:00030001000000010000000000000000\nentry=2:00030000000000000000000000000000\n") 0
     (image
-    (leading
+    (leaderWith
     (kept 5 5 0
     (record { term = 5; command = buzzing (pos 1) 0 }
     ∷ record { term = 5; command = record { motor = 3; kind = 0; duration = pos 0; a = 0; b = 0 } }
     ∷ []))
     (confirmed 2 0))) []
     -- 0: the held one if equal
-    ∷ at 0 1 7 5 0 0 (image five)
+    ∷ stepRow 0 1 7 5 0 0 (image five)
     (ascii "type=vote-yes\nterm=5\nfrom=3\nto=1\nlast=0\nballot=2\ncount=1\nentry=2:00030001000000010000000000000000\n") 0
-    (image (standing (kept 5 3 0 []) (true ∷ true ∷ true ∷ replicate 4 false) (record { ballot = 2; command = buzz } ∷ []))) []
+    (image (candidateWith (kept 5 3 0 []) (true ∷ true ∷ true ∷ replicate 4 false) (record { ballot = 2; command = buzz } ∷ []))) []
     -- 0: at its own ballot a log that goes beyond an append stays, and chosen follows
     ∷ does 0 2 5 keepsUp
     (ascii "type=append\nterm=5\nfrom=1\nto=2\nprev=0\nprevterm=0\nchosen=1\ncount=1\nentry=1:00030001000000fa3f00000000000000\n")
-    (following (kept 5 5 1 (entry 1 ∷ entry 5 ∷ [])))
+    (followerWith (kept 5 5 1 (buzzEntry 1 ∷ buzzEntry 5 ∷ [])))
     (ascii "type=append-yes\nterm=5\nfrom=2\nto=1\nend=1\n")
     -- 0: entries after prev join it
     ∷ does 0 2 5 keepsUp
     (ascii "type=append\nterm=5\nfrom=1\nto=2\nprev=2\nprevterm=5\nchosen=3\ncount=1\nentry=5:00030001000000fa3f00000000000000\n")
-    (following (kept 5 5 3 (entry 1 ∷ entry 5 ∷ entry 5 ∷ [])))
+    (followerWith (kept 5 5 3 (buzzEntry 1 ∷ buzzEntry 5 ∷ buzzEntry 5 ∷ [])))
     (ascii "type=append-yes\nterm=5\nfrom=2\nto=1\nend=3\n")
     -- 0: a prev beyond the log, and one of another term, do not fit
     ∷ does 0 2 5 keepsUp (ascii "type=append\nterm=5\nfrom=1\nto=2\nprev=3\nprevterm=5\nchosen=0\ncount=0\n") keepsUp
@@ -107,22 +107,22 @@ examples =
     ∷ does 0 2 5 keepsUp (ascii "type=append\nterm=5\nfrom=1\nto=2\nprev=2\nprevterm=4\nchosen=0\ncount=0\n") keepsUp
     (ascii "type=append-no\nterm=5\nfrom=2\nto=1\nlength=2\n")
     -- 1
-    ∷ at 1 1 4 1 0 0 (image fresh) [] 1 (image fresh) []
-    ∷ at 1 4 3 1 0 0 (image fresh) [] 1 (image fresh) []
-    ∷ at 1 0 3 1 0 0 (image fresh) [] 1 (image fresh) []
-    ∷ at 1 1 3 6 0 0 (image fresh) [] 1 (image fresh) []
-    ∷ at 1 1 3 0 0 0 (image fresh) [] 1 (image fresh) []
+    ∷ stepRow 1 1 4 1 0 0 (image fresh) [] 1 (image fresh) []
+    ∷ stepRow 1 4 3 1 0 0 (image fresh) [] 1 (image fresh) []
+    ∷ stepRow 1 0 3 1 0 0 (image fresh) [] 1 (image fresh) []
+    ∷ stepRow 1 1 3 6 0 0 (image fresh) [] 1 (image fresh) []
+    ∷ stepRow 1 1 3 0 0 0 (image fresh) [] 1 (image fresh) []
     -- 2: ballot above term; a byte too many; one too few; a byte set behind the log; no role 3; a voter of 2
-    ∷ refused 2 1 1 (following (kept 1 2 0 [])) [] 2
-    ∷ at 2 1 3 1 0 0 (image fresh ++ (0 ∷ [])) [] 2 (image fresh ++ (0 ∷ [])) []
-    ∷ at 2 1 3 1 0 0 (drop 1 (image fresh)) [] 2 (drop 1 (image fresh)) []
-    ∷ at 2 1 3 1 0 0 (drop 1 (image fresh) ++ (1 ∷ [])) [] 2 (drop 1 (image fresh) ++ (1 ∷ [])) []
-    ∷ at 2 1 3 1 0 0 (replicate 20 0 ++ (3 ∷ drop 21 (image fresh))) [] 2 (replicate 20 0 ++ (3 ∷ drop 21 (image fresh))) []
-    ∷ at 2 1 3 1 0 0 (replicate 20 0 ++ (1 ∷ 2 ∷ drop 22 (image fresh))) [] 2 (replicate 20 0 ++ (1 ∷ 2 ∷ drop 22 (image fresh))) []
+    ∷ refused 2 1 1 (followerWith (kept 1 2 0 [])) [] 2
+    ∷ stepRow 2 1 3 1 0 0 (image fresh ++ (0 ∷ [])) [] 2 (image fresh ++ (0 ∷ [])) []
+    ∷ stepRow 2 1 3 1 0 0 (drop 1 (image fresh)) [] 2 (drop 1 (image fresh)) []
+    ∷ stepRow 2 1 3 1 0 0 (drop 1 (image fresh) ++ (1 ∷ [])) [] 2 (drop 1 (image fresh) ++ (1 ∷ [])) []
+    ∷ stepRow 2 1 3 1 0 0 (replicate 20 0 ++ (3 ∷ drop 21 (image fresh))) [] 2 (replicate 20 0 ++ (3 ∷ drop 21 (image fresh))) []
+    ∷ stepRow 2 1 3 1 0 0 (replicate 20 0 ++ (1 ∷ 2 ∷ drop 22 (image fresh))) [] 2 (replicate 20 0 ++ (1 ∷ 2 ∷ drop 22 (image fresh))) []
     -- 2: a candidate that is not among its voters; a leader's own confirmed length that is not its length; a restart of an illegal log
-    ∷ refused 2 2 1 stands [] 2
-    ∷ refused 2 2 1 leads [] 2
-    ∷ refused 2 1 4 (following (kept 1 1 0 (entry 1 ∷ entry 0 ∷ []))) [] 2
+    ∷ refused 2 2 1 aCandidate [] 2
+    ∷ refused 2 2 1 aLeader [] 2
+    ∷ refused 2 1 4 (followerWith (kept 1 1 0 (buzzEntry 1 ∷ buzzEntry 0 ∷ []))) [] 2
     -- 3
     ∷ roomFor 16_383 (refused 3 1 4 fresh [] 3)
     -- 4: a leading zero; a line too many; no text at all; a prevterm without a prev; an illegal command
@@ -137,46 +137,46 @@ examples =
     ∷ refused 5 1 5 fresh (ascii "type=vote-no\nterm=1\nfrom=1\nto=1\n") 5
     ∷ refused 5 1 5 fresh (ascii "type=vote-no\nterm=1\nfrom=2\nto=3\n") 5
     -- 6: a vote-request below own term and at it, an append below it, and one that gets no reply
-    ∷ at 6 2 3 5 0 0 (image follows) (ascii "type=vote-request\nterm=4\nfrom=1\nto=0\nlast=9\nballot=3\n") 6 (image follows)
+    ∷ stepRow 6 2 3 5 0 0 (image aFollower) (ascii "type=vote-request\nterm=4\nfrom=1\nto=0\nlast=9\nballot=3\n") 6 (image aFollower)
     (ascii "type=vote-no\nterm=5\nfrom=2\nto=1\n")
-    ∷ at 6 2 3 5 0 0 (image follows) (ascii "type=vote-request\nterm=5\nfrom=1\nto=0\nlast=9\nballot=3\n") 6 (image follows)
+    ∷ stepRow 6 2 3 5 0 0 (image aFollower) (ascii "type=vote-request\nterm=5\nfrom=1\nto=0\nlast=9\nballot=3\n") 6 (image aFollower)
     (ascii "type=vote-no\nterm=5\nfrom=2\nto=1\n")
-    ∷ at 6 2 3 5 0 0 (image follows) wholeAppend 6 (image follows) (ascii "type=append-no\nterm=5\nfrom=2\nto=1\nlength=1\n")
-    ∷ refused 6 1 5 leads yes-text 6
+    ∷ stepRow 6 2 3 5 0 0 (image aFollower) wholeAppend 6 (image aFollower) (ascii "type=append-no\nterm=5\nfrom=2\nto=1\nlength=1\n")
+    ∷ refused 6 1 5 aLeader yes-text 6
     -- 7: append at a leader; append-yes beyond a leader's length; vote-yes with another last, and with a ballot above the candidate's own
-    ∷ refused 7 1 5 leads (ascii "type=append\nterm=5\nfrom=2\nto=1\nprev=0\nprevterm=0\nchosen=0\ncount=0\n") 7
-    ∷ refused 7 1 5 leads (ascii "type=append-yes\nterm=5\nfrom=2\nto=1\nend=3\n") 7
-    ∷ refused 7 1 5 stands (ascii "type=vote-yes\nterm=5\nfrom=2\nto=1\nlast=0\nballot=1\ncount=0\n") 7
-    ∷ refused 7 1 5 stands (ascii "type=vote-yes\nterm=5\nfrom=2\nto=1\nlast=1\nballot=2\ncount=0\n") 7
+    ∷ refused 7 1 5 aLeader (ascii "type=append\nterm=5\nfrom=2\nto=1\nprev=0\nprevterm=0\nchosen=0\ncount=0\n") 7
+    ∷ refused 7 1 5 aLeader (ascii "type=append-yes\nterm=5\nfrom=2\nto=1\nend=3\n") 7
+    ∷ refused 7 1 5 aCandidate (ascii "type=vote-yes\nterm=5\nfrom=2\nto=1\nlast=0\nballot=1\ncount=0\n") 7
+    ∷ refused 7 1 5 aCandidate (ascii "type=vote-yes\nterm=5\nfrom=2\nto=1\nlast=1\nballot=2\ncount=0\n") 7
     -- 8
-    ∷ refused 8 1 1 leads [] 8
-    ∷ refused 8 2 2 follows (buzzBytes ms250 half) 8
-    ∷ refused 8 1 3 stands [] 8
+    ∷ refused 8 1 1 aLeader [] 8
+    ∷ refused 8 2 2 aFollower (buzzBytes ms250 halfGain) 8
+    ∷ refused 8 1 3 aCandidate [] 8
     -- 9
-    ∷ refused 9 1 1 (standing (kept 4_294_967_295 1 0 (entry 1 ∷ [])) first []) [] 9
+    ∷ refused 9 1 1 (candidateWith (kept 4_294_967_295 1 0 (buzzEntry 1 ∷ [])) hub1Alone []) [] 9
     -- 10: not 16 bytes; motor 0
-    ∷ refused 10 1 2 elected (drop 1 (buzzBytes ms250 half)) 10
-    ∷ refused 10 1 2 elected (0 ∷ 0 ∷ drop 2 (buzzBytes ms250 half)) 10
+    ∷ refused 10 1 2 elected (drop 1 (buzzBytes ms250 halfGain)) 10
+    ∷ refused 10 1 2 elected (0 ∷ 0 ∷ drop 2 (buzzBytes ms250 halfGain)) 10
     -- 11 is case 9. 12: to a number outside 1..N; to itself; prev above length
-    ∷ at 12 1 3 3 4 0 (image leads) [] 12 (image leads) []
-    ∷ at 12 1 3 3 1 0 (image leads) [] 12 (image leads) []
-    ∷ at 12 1 3 3 2 3 (image leads) [] 12 (image leads) []
+    ∷ stepRow 12 1 3 3 4 0 (image aLeader) [] 12 (image aLeader) []
+    ∷ stepRow 12 1 3 3 1 0 (image aLeader) [] 12 (image aLeader) []
+    ∷ stepRow 12 1 3 3 2 3 (image aLeader) [] 12 (image aLeader) []
     -- 13: vote-no and append-no of own term; an append-yes that is not greater than recorded
-    ∷ refused 13 1 5 stands (ascii "type=vote-no\nterm=5\nfrom=2\nto=1\n") 13
-    ∷ refused 13 1 5 leads (ascii "type=append-no\nterm=5\nfrom=2\nto=1\nlength=0\n") 13
-    ∷ refused 13 1 5 leads (ascii "type=append-yes\nterm=5\nfrom=2\nto=1\nend=1\n") 13
+    ∷ refused 13 1 5 aCandidate (ascii "type=vote-no\nterm=5\nfrom=2\nto=1\n") 13
+    ∷ refused 13 1 5 aLeader (ascii "type=append-no\nterm=5\nfrom=2\nto=1\nlength=0\n") 13
+    ∷ refused 13 1 5 aLeader (ascii "type=append-yes\nterm=5\nfrom=2\nto=1\nend=1\n") 13
     -- the shortcuts: 2 < 3 would say yes, and ballot 4 > 3 says no
-    ∷ at 0 2 5 5 0 0 (image chosenTwo) (ascii "type=vote-request\nterm=5\nfrom=1\nto=0\nlast=2\nballot=3\n") 0
-    (image (following (kept 5 4 2 (entry 1 ∷ entry 2 ∷ []))))
+    ∷ stepRow 0 2 5 5 0 0 (image chosenTwo) (ascii "type=vote-request\nterm=5\nfrom=1\nto=0\nlast=2\nballot=3\n") 0
+    (image (followerWith (kept 5 4 2 (buzzEntry 1 ∷ buzzEntry 2 ∷ []))))
     (ascii "type=vote-no\nterm=5\nfrom=2\nto=1\n")
     -- a longer log is not cut (and see case 12)
     ∷ does 0 2 5 chosenTwo (ascii "type=append\nterm=5\nfrom=1\nto=2\nprev=1\nprevterm=1\nchosen=0\ncount=0\n")
-    (following (kept 5 4 2 (entry 1 ∷ entry 2 ∷ [])))
+    (followerWith (kept 5 4 2 (buzzEntry 1 ∷ buzzEntry 2 ∷ [])))
     (ascii "type=append-no\nterm=5\nfrom=2\nto=1\nlength=2\n")
     -- a voter's repeated vote-yes is not counted twice
-    ∷ at 13 1 5 5 0 0 (image five) (ascii "type=vote-yes\nterm=5\nfrom=2\nto=1\nlast=0\nballot=0\ncount=0\n") 13 (image five) []
+    ∷ stepRow 13 1 5 5 0 0 (image five) (ascii "type=vote-yes\nterm=5\nfrom=2\nto=1\nlast=0\nballot=0\ncount=0\n") 13 (image five) []
     -- ffffffff is minus one (see case 10), also in a state
-    ∷ refused 2 1 1 (following (kept 1 1 0 (record { term = 1; command = buzzing (negsuc 0) 0 } ∷ []))) [] 2
+    ∷ refused 2 1 1 (followerWith (kept 1 1 0 (record { term = 1; command = buzzing (negsuc 0) 0 } ∷ []))) [] 2
     ∷ []
 
 -- Every example comes out as the table has it.

@@ -5,19 +5,19 @@ use lib.IntN.{pos}
 use lib.ListN.{replicate}
 use Rattle.text.specs.Ascii.{ascii}
 use Rattle.state.specs.State.{State, fresh}
-use Rattle.rules.specs.Row.{Row, AllHold}
+use Rattle.rules.specs.Row.{CaseRow, AllHold}
 use Rattle.rules.specs.Samples.{
   buzz,
   buzzing,
   buzzBytes,
   ms250,
-  half,
-  entry,
+  halfGain,
+  buzzEntry,
   kept,
-  following,
-  standing,
-  leading,
-  first,
+  followerWith,
+  candidateWith,
+  leaderWith,
+  hub1Alone,
   confirmed,
   elected,
   withOne,
@@ -33,40 +33,40 @@ abbrev pub request : List ℕ
 request = ascii "type=vote-request\nterm=1\nfrom=1\nto=0\nlast=0\nballot=0\n"
 
 -- Hub 1 has asked, and hub 2 has the entry of the whole append.
-abbrev pub asking : State
-asking = standing (kept 1 0 0 []) first []
+abbrev pub firstCandidate : State
+firstCandidate = candidateWith (kept 1 0 0 []) hub1Alone []
 
 abbrev pub holding : State
-holding = following (kept 1 1 0 (entry 1 ∷ []))
+holding = followerWith (kept 1 1 0 (buzzEntry 1 ∷ []))
 
 -- A leader with n entries.
 abbrev pub long : ℕ → State
-long n = leading (kept 1 1 0 (replicate n (entry 1))) (confirmed n 0)
+long n = leaderWith (kept 1 1 0 (replicate n (buzzEntry 1))) (confirmed n 0)
 
 -- Case 12's follower, at the term before or after the append, with this ballot.
 abbrev pub twoHeld : ℕ → ℕ → State
-twoHeld term ballot = following (kept term ballot 0 (entry 1 ∷ entry 1 ∷ []))
+twoHeld term ballot = followerWith (kept term ballot 0 (buzzEntry 1 ∷ buzzEntry 1 ∷ []))
 
 -- Case, hub, event, state, input; next state, message or the outcome.
-unfoldable pub table : List Row
-table =
-    does 1 1 1 fresh [] asking request
-    ∷ does 2 2 5 fresh request (following (kept 1 0 0 [])) yes-text
-    ∷ does 3 1 5 asking yes-text elected []
+unfoldable pub caseTable : List CaseRow
+caseTable =
+    does 1 1 1 fresh [] firstCandidate request
+    ∷ does 2 2 5 fresh request (followerWith (kept 1 0 0 [])) yes-text
+    ∷ does 3 1 5 firstCandidate yes-text elected []
     ∷ refused 4 1 5 elected yes-text 13
-    ∷ does 5 2 5 (following (kept 1 0 0 [])) wholeAppend holding end-text
+    ∷ does 5 2 5 (followerWith (kept 1 0 0 [])) wholeAppend holding end-text
     ∷ does 6 2 5 holding wholeAppend holding end-text
-    ∷ does 7 1 2 elected (buzzBytes ms250 half) (withOne buzz) []
+    ∷ does 7 1 2 elected (buzzBytes ms250 halfGain) (withOne buzz) []
     ∷ does 7 1 3 (withOne buzz) [] (withOne buzz) wholeAppend
-    ∷ does 7 1 5 (withOne buzz) end-text (leading (kept 1 1 1 (entry 1 ∷ [])) (confirmed 1 1)) []
-    ∷ does 8 1 1 (following (kept 4_294_967_294 0 0 [])) [] (standing (kept 4_294_967_295 0 0 []) first [])
+    ∷ does 7 1 5 (withOne buzz) end-text (leaderWith (kept 1 1 1 (buzzEntry 1 ∷ [])) (confirmed 1 1)) []
+    ∷ does 8 1 1 (followerWith (kept 4_294_967_294 0 0 [])) [] (candidateWith (kept 4_294_967_295 0 0 []) hub1Alone [])
     (ascii "type=vote-request\nterm=4294967295\nfrom=1\nto=0\nlast=0\nballot=0\n")
-    ∷ refused 8 1 1 (following (kept 4_294_967_295 0 0 [])) [] 9
-    ∷ does 9 1 2 (long 255) (buzzBytes ms250 half) (long 256) []
-    ∷ refused 9 1 2 (long 256) (buzzBytes ms250 half) 11
-    ∷ does 10 1 2 elected (buzzBytes (0 ∷ 0x09 ∷ 0x27 ∷ 0xc0 ∷ []) half) (withOne (buzzing (pos 600_000) 0x3f00_0000)) []
-    ∷ refused 10 1 2 elected (buzzBytes (0 ∷ 0x09 ∷ 0x27 ∷ 0xc1 ∷ []) half) 10
-    ∷ refused 10 1 2 elected (buzzBytes (0xff ∷ 0xff ∷ 0xff ∷ 0xff ∷ []) half) 10
+    ∷ refused 8 1 1 (followerWith (kept 4_294_967_295 0 0 [])) [] 9
+    ∷ does 9 1 2 (long 255) (buzzBytes ms250 halfGain) (long 256) []
+    ∷ refused 9 1 2 (long 256) (buzzBytes ms250 halfGain) 11
+    ∷ does 10 1 2 elected (buzzBytes (0 ∷ 0x09 ∷ 0x27 ∷ 0xc0 ∷ []) halfGain) (withOne (buzzing (pos 600_000) 0x3f00_0000)) []
+    ∷ refused 10 1 2 elected (buzzBytes (0 ∷ 0x09 ∷ 0x27 ∷ 0xc1 ∷ []) halfGain) 10
+    ∷ refused 10 1 2 elected (buzzBytes (0xff ∷ 0xff ∷ 0xff ∷ 0xff ∷ []) halfGain) 10
     ∷ does 11 1 2 elected (buzzBytes ms250 (0x3f ∷ 0x80 ∷ 0 ∷ 0 ∷ [])) (withOne (buzzing (pos 250) 0x3f80_0000)) []
     ∷ refused 11 1 2 elected (buzzBytes ms250 (0x3f ∷ 0x80 ∷ 0 ∷ 1 ∷ [])) 10
     ∷ refused 11 1 2 elected (buzzBytes ms250 (0x80 ∷ 0 ∷ 0 ∷ 0 ∷ [])) 10
@@ -82,4 +82,4 @@ table =
 
 -- Every one of the twelve cases comes out as rule R39 has it.
 abbrev pub CasesHold : Type 0
-CasesHold = AllHold table
+CasesHold = AllHold caseTable

@@ -33,8 +33,8 @@ module _ {A : Type 0} (P : A → Bool) where
       by false = refl
 
   -- How many of the first n hubs.
-  pub count-hubs : (x : A) (l : List A) (n : ℕ) → n ≤ length l → count P (take n l) ≡ quorum.count n (λ g. P (ofHub l x g))
-  unfolding quorum.count ofHub count
+  pub count-hubs : (x : A) (l : List A) (n : ℕ) → n ≤ length l → count P (take n l) ≡ quorum.countTo n (λ g. P (ofHub l x g))
+  unfolding quorum.countTo ofHub count
   count-hubs x l zero le = refl
   count-hubs x l (suc n) le =
       let step : count P (take n l ++ (getD l n x ∷ [])) ≡ count P (take n l) + count P (getD l n x ∷ []) = count-append (take n l) _ in

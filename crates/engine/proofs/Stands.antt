@@ -11,11 +11,11 @@ use Rattle.paxos.specs.Paxos.{Machine, asked, _∈_, here, there}
 use Rattle.paxos.proofs.Member.{clash, new, nothing}
 use Rattle.paxos.proofs.PutLaws.{put-cases}
 use Rattle.views.specs.Hall.{Hall, first, asking}
-use Rattle.views.specs.Acts.{Act, Acts, done, next}
+use Rattle.views.specs.Acts.{Act, Acts, no-act, then-act}
 use Rattle.views.proofs.Theorems.{acts-trans}
 use Rattle.engine.specs.Home.{adding}
 use Rattle.engine.specs.Rules.{Came, Rules, Household, fresh-household, met, Heard, Meetings, none-yet, meeting}
-use Rattle.engine.specs.Facts.{Facts, Stands, Kept}
+use Rattle.engine.specs.Facts.{Facts, Stands, FactsKept}
 
 -- What is in a list after something may have joined it.
 pub adding-cases : {A P : Type 0} {a : A} (x : Option A) {l : List A} → a ∈ adding x l → (x ≡ some a → P) → (a ∈ l → P) → P
@@ -23,7 +23,7 @@ unfolding adding
 adding-cases none i f g = g i
 adding-cases (some b) i f g = new i (λ e. f (ap some (sym e))) g
 
-module _ {C : Type 0} {R : Rules C} {M : Machine C} {G : Group} {F : Facts R M} (K : Kept G F) where
+module _ {C : Type 0} {R : Rules C} {M : Machine C} {G : Group} {F : Facts R M} (K : FactsKept G F) where
   -- A fresh household stands for the machine at its start.
   pub fresh-stands : Stands F (fresh-household R) first
   fresh-stands =
@@ -97,11 +97,11 @@ module _ {C : Type 0} {R : Rules C} {M : Machine C} {G : Group} {F : Facts R M} 
             let x =
             meets (record { states = W .states; sent = W .sent; orders = c ∷ W .orders }) (asking H c) (asked-stands W H c ok) heard
             (λ d s t. let same : d ≡ c = cc in rw same here) in
-            record { hall = x .hall; acts = acts-trans (next done Act.ask) (x .acts); stands = x .stands }
+            record { hall = x .hall; acts = acts-trans (then-act no-act Act.to-ask) (x .acts); stands = x .stands }
 
   -- Whatever has happened in a fresh household, it stands for a machine.
   pub meetings-stand : (W : Household R) → Meetings R G W → Onward W first
-  meetings-stand W none-yet = record { hall = first; acts = done; stands = fresh-stands }
+  meetings-stand W none-yet = record { hall = first; acts = no-act; stands = fresh-stands }
   meetings-stand W (meeting {W = X} r h hub o w) =
       let x = meetings-stand X r in
       let y = met-stands h o hub X (x .hall) (x .stands) w in

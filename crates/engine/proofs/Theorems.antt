@@ -21,7 +21,7 @@ module _ {E : Engine} {G : Group} (U : Upholds E G) where
 
   -- Over any deeds there stands a later hall.
   going-all : (ds : List (E .Deed)) (H : Home E) (J : Hall (E .Command)) → U .Over H J → AllFair E G H ds → Going E G (U .Over) (after-all E G H ds) J
-  going-all [] H J o f = record { hall = J; acts = Acts.done; over = o }
+  going-all [] H J o f = record { hall = J; acts = Acts.no-act; over = o }
   going-all (d ∷ ds) H J o (f, fs) =
       let x = U .deed H J d o f in
       let y = going-all ds (after E G H d) (x .hall) (x .over) fs in

@@ -10,8 +10,8 @@ use Rattle.engine.specs.Engine.{Engine, machineOf}
 use Rattle.engine.specs.Home.{Home, fresh-home, after, Fair, Runs}
 use Rattle.engine.specs.Upholds.{Going, Upholds}
 use Rattle.engine.specs.Rules.{Rules, Household, fresh-household, met, Heard, Meetings, none-yet, meeting}
-use Rattle.engine.specs.Facts.{Facts, Stands, Kept}
-use Rattle.engine.specs.Written.{Writing, IsWritten, Becomes, stays, meets, Writes}
+use Rattle.engine.specs.Facts.{Facts, Stands, FactsKept}
+use Rattle.engine.specs.Written.{Writing, IsWritten, Becomes, stays, meets, WritesOut}
 use Rattle.engine.proofs.Stands.{fresh-stands, met-stands, meetings-stand}
 use Rattle.engine.proofs.RunsLaws.{runs-one, runs-trans}
 use Rattle.views.specs.Acts.{Acts}
@@ -22,10 +22,10 @@ pub record Over (E : Engine) (R : Rules (E .Command)) (X : Writing R) (G : Group
   pub is : IsWritten E R X H household
   pub stands : Stands F household J
 
-module _ {E : Engine} {R : Rules (E .Command)} {X : Writing R} {G : Group} {F : Facts R (machineOf E G)} (K : Kept G F) (Wr : Writes E R X G F) where
+module _ {E : Engine} {R : Rules (E .Command)} {X : Writing R} {G : Group} {F : Facts R (machineOf E G)} (K : FactsKept G F) (Wr : WritesOut E R X G F) where
   -- After a deed a later hall stands over the home.
   pub goes : (H : Home E) (J : Hall (E .Command)) (d : E .Deed) (o : Over E R X G F H J) → Becomes E R X G (o .household) (after E G H d) → Going E G (Over E R X G F) (after E G H d) J
-  goes H J d o (stays is) = record { hall = J; acts = Acts.done; over = record { household = o .household; is = is; stands = o .stands } }
+  goes H J d o (stays is) = record { hall = J; acts = Acts.no-act; over = record { household = o .household; is = is; stands = o .stands } }
   goes H J d o (meets h e hub heard is) =
       let x = met-stands K h e hub (o .household) J (o .stands) heard in
       record { hall = x .hall; acts = x .acts; over = record { household = _; is = is; stands = x .stands } }

@@ -9,7 +9,7 @@ use Rattle.paxos.specs.Paxos.{Machine}
 use Rattle.views.specs.Hall.{View}
 
 -- What comes of a call: whether it took effect, the bytes of the state that it leaves, and the text that it wrote, empty if it wrote none.
-pub record Answer : Type 0 where
+pub record Given : Type 0 where
   pub took-effect : Bool
   pub state : List ℕ
   pub text : List ℕ
@@ -28,7 +28,7 @@ pub record Engine : Type 1 where
   -- The command that the hub is asked to propose, if it may be proposed.
   pub asks : Deed → Option Command
   -- What comes of it.
-  pub step : Group → Deed → Answer
+  pub step : Group → Deed → Given
   -- The bytes of a fresh hub's state.
   pub fresh : List ℕ
   -- The bytes have the same kept parts: those that are there after a loss of power.

@@ -61,7 +61,7 @@ module _ {C : Type 0} {R : Rules C} {M : Machine C} (F : Facts R M) where
     pub wrote : (w : R .Message) → m ≡ some w → F .True hall ghost w
 
 -- What an engine proves of its facts.
-pub record Kept {C : Type 0} {R : Rules C} {M : Machine C} (G : Group) (F : Facts R M) : Type 0 where
+pub record FactsKept {C : Type 0} {R : Rules C} {M : Machine C} (G : Group) (F : Facts R M) : Type 0 where
   -- They hold of fresh hubs.
   pub ghost : F .Ghost
   pub ground : F .Ground first ghost

@@ -36,7 +36,7 @@ module _ (E : Engine) (R : Rules (E .Command)) (X : Writing R) where
     meets : (h : ℕ) (o : R .Occasion) → isHub (G .size) h ≡ true → Heard R (W .sent) o → IsWritten H (met R G W h o) → Becomes G W H
 
 -- What an engine proves of its bytes.
-pub record Writes (E : Engine) (R : Rules (E .Command)) (X : Writing R) (G : Group) (F : Facts R (machineOf E G)) : Type 0 where
+pub record WritesOut (E : Engine) (R : Rules (E .Command)) (X : Writing R) (G : Group) (F : Facts R (machineOf E G)) : Type 0 where
   -- A fresh home is a fresh household, written out.
   pub fresh : IsWritten E R X (fresh-home E) (fresh-household R)
   -- After each deed the household is as it was, or has met an event.

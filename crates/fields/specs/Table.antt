@@ -83,23 +83,23 @@ firstOwn Kind·AppendYes = End
 firstOwn Kind·AppendNo = Length
 
 -- The field behind a field. (Behind the last there is none; any will do.)
-abbrev pub following : Kind → Field → Field
-following k Term = From
-following k From = To
-following k To = firstOwn k
-following k Last = Ballot
-following k Ballot = Count
-following k Count = Term
-following k Prev = Prevterm
-following k Prevterm = Chosen
-following k Chosen = Count
-following k End = Term
-following k Length = Term
+abbrev pub fieldAfter : Kind → Field → Field
+fieldAfter k Term = From
+fieldAfter k From = To
+fieldAfter k To = firstOwn k
+fieldAfter k Last = Ballot
+fieldAfter k Ballot = Count
+fieldAfter k Count = Term
+fieldAfter k Prev = Prevterm
+fieldAfter k Prevterm = Chosen
+fieldAfter k Chosen = Count
+fieldAfter k End = Term
+fieldAfter k Length = Term
 
 -- The field of line i, from 0 on.
 unfoldable pub fieldAt : Kind → ℕ → Field
 fieldAt k zero = Term
-fieldAt k (suc i) = following k (fieldAt k i)
+fieldAt k (suc i) = fieldAfter k (fieldAt k i)
 
 -- ---- the fields of numbers
 

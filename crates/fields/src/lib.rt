@@ -3,7 +3,7 @@
 ghost use mathlib.Core.Path.{_≡_};
 ghost use Prim.Native.Nat.{_<_};
 ghost use Rattle.message.specs.Fields.{slot};
-ghost use Rattle.fields.specs.Table.{fieldIs, fieldsMany, firstOwn, following, bodyAt, fieldsBy};
+ghost use Rattle.fields.specs.Table.{fieldIs, fieldsMany, firstOwn, fieldAfter, bodyAt, fieldsBy};
 use kinds::Hub;
 use kinds::Place;
 use kinds::Term;
@@ -90,7 +90,7 @@ fn first_own(kind: Kind) -> Field
 
 // The field behind a field. (Behind the last there is none; any will do.)
 pub fn after(kind: Kind, field: Field) -> Field
-    ensures { λ r. ⌜ r ≡ following kind field ⌝ }
+    ensures { λ r. ⌜ r ≡ fieldAfter kind field ⌝ }
 {
     match field {
         Field::Term => Field::From,

@@ -16,14 +16,14 @@ use Rattle.state.specs.Head.{headOf}
 use Rattle.state.specs.Image.{image, stateIn}
 use Rattle.rules.specs.Outcome.{Next, done, refuses, contradicting, nothing-new}
 use Rattle.rules.specs.Events.{withTerm}
-use Rattle.rules.specs.Receive.{Effect, idle, effect, rule, contradicts, raised, afterRaise, atOwnTerm, receive}
+use Rattle.rules.specs.Receive.{Effect, idle, effect, rule, contradicts, followerAt, afterRaise, atOwnTerm, receive}
 use Rattle.rules.specs.Step.{over, written}
 use Rattle.rules.proofs.LegalLaws.{IsMessage}
 use Rattle.rules.proofs.ReceiveLaws.{own-term, raised-agrees}
 use Rattle.promise.specs.Promise.{Ready, Raises, leftBy, ruledBy, saidBy}
 use Rattle.promise.proofs.PromiseLaws.{ready-legal, ready-next, ready-head, ready-term, ready-who}
 use Rattle.promise.proofs.LostLaws.{raised-legal}
-use Rattle.refuse.specs.Received.{bodyIn, messageIn}
+use Rattle.refuse.specs.Received.{bodyIn, messageHeard}
 use Rattle.obey.specs.declared.Did.{Did}
 use Rattle.obey.specs.Obeyed.{didBy, Obeyed, Obeys}
 use Rattle.obey.proofs.SenderLaws.{message-legal}
@@ -77,7 +77,7 @@ module _ (w : Who) (h : Head) (l : List ℕ) (f : Fields) (s out : List ℕ) (d 
   is-ready : Ready w l
   is-ready = d .receives .ready
 
-  is-legal : IsMessage (messageIn f s)
+  is-legal : IsMessage (messageHeard f s)
   is-legal = message-legal w l f s out (d .receives)
 
   -- The head is its state's.
@@ -99,7 +99,7 @@ module _ (w : Who) (h : Head) (l : List ℕ) (f : Fields) (s out : List ℕ) (d 
     may-raise = record { ready = is-ready; head = d .head; up = omega (arith, above); last = is-legal .last }
 
     abbrev risen : State
-    risen = raised (stateIn l) (f .term .0)
+    risen = followerAt (stateIn l) (f .term .0)
 
     -- The follower of that term is legal.
     risen-legal : legalState w risen ≡ true
@@ -111,7 +111,7 @@ module _ (w : Who) (h : Head) (l : List ℕ) (f : Fields) (s out : List ℕ) (d 
 
     -- The rule may be obeyed there.
     pub may-obey-risen : {l1 : List ℕ} → l1 ≡ image risen → Obeys w l1 f s out
-    unfolding raised withTerm
+    unfolding followerAt withTerm
     may-obey-risen {l1} e =
         let is = risen-held e in
         record {
@@ -127,14 +127,14 @@ module _ (w : Who) (h : Head) (l : List ℕ) (f : Fields) (s out : List ℕ) (d 
         }
 
     -- What the message comes to is what its rule comes to there.
-    higher : receive w (stateIn l) (messageIn f s) ≡ afterRaise risen (rule w risen (f .from .0) (bodyIn (f .body) s))
+    higher : receive w (stateIn l) (messageHeard f s) ≡ afterRaise risen (rule w risen (f .from .0) (bodyIn (f .body) s))
     unfolding receive
     higher = rw (d .addressed, d .fresh, ap (λ (t : ℕ). ltb t (f .term .0)) (sym own) ∙ up)
 
     -- What the rule comes to there.
     pub higher-comes :
         {l1 l′ out′ : List ℕ} {did : Did} {t : Told} → l1 ≡ image risen → Obeyed (rule w (stateIn l1) (f .from .0) (bodyIn (f .body) s)) l1 out did l′ out′
-        → t ≡ toldBy did done → Comes (receive w (stateIn l) (messageIn f s)) l out t l′ out′
+        → t ≡ toldBy did done → Comes (receive w (stateIn l) (messageHeard f s)) l out t l′ out′
     higher-comes {l1} {l′} {out′} {did} e o told =
         let there = subst (λ (x : State). Obeyed (rule w x (f .from .0) (bodyIn (f .body) s)) l1 out did l′ out′) (risen-held e) o in
         rw higher (raised-comes risen (rule w risen (f .from .0) (bodyIn (f .body) s)) e there told)
@@ -146,7 +146,7 @@ module _ (w : Who) (h : Head) (l : List ℕ) (f : Fields) (s out : List ℕ) (d 
     not-higher = ap (λ (t : ℕ). ltb t (f .term .0)) (sym own) ∙ low
 
     -- Outcome 7.
-    pub contradicting-comes : contradicts (stateIn l) (bodyIn (f .body) s) ≡ true → Comes (receive w (stateIn l) (messageIn f s)) l out (told contradicting 0) l out
+    pub contradicting-comes : contradicts (stateIn l) (bodyIn (f .body) s) ≡ true → Comes (receive w (stateIn l) (messageHeard f s)) l out (told contradicting 0) l out
     unfolding receive
     contradicting-comes c = refused-comes (stateIn l) l out contradicting (rw (d .addressed, d .fresh, not-higher, c)) (λ e. omega arith)
 
@@ -157,17 +157,17 @@ module _ (w : Who) (h : Head) (l : List ℕ) (f : Fields) (s out : List ℕ) (d 
           record {
             receives = d .receives;
             addressed = d .addressed;
-            own-term = own-term w (ready-who w l is-ready) (stateIn l) (ready-legal w l is-ready) (messageIn f s) is-legal (d .fresh) not-higher;
+            own-term = own-term w (ready-who w l is-ready) (stateIn l) (ready-legal w l is-ready) (messageHeard f s) is-legal (d .fresh) not-higher;
             agrees = c;
           }
 
       -- What the message comes to is what its rule comes to.
-      at-own : receive w (stateIn l) (messageIn f s) ≡ atOwnTerm (stateIn l) (rule w (stateIn l) (f .from .0) (bodyIn (f .body) s))
+      at-own : receive w (stateIn l) (messageHeard f s) ≡ atOwnTerm (stateIn l) (rule w (stateIn l) (f .from .0) (bodyIn (f .body) s))
       unfolding receive
       at-own = rw (d .addressed, d .fresh, not-higher, c)
 
       -- What the rule comes to.
       pub obeyed-comes :
           {l′ out′ : List ℕ} {did : Did} {t : Told} → Obeyed (rule w (stateIn l) (f .from .0) (bodyIn (f .body) s)) l out did l′ out′
-          → t ≡ toldBy did nothing-new → Comes (receive w (stateIn l) (messageIn f s)) l out t l′ out′
+          → t ≡ toldBy did nothing-new → Comes (receive w (stateIn l) (messageHeard f s)) l out t l′ out′
       obeyed-comes o told = rw at-own (own-comes (stateIn l) (rule w (stateIn l) (f .from .0) (bodyIn (f .body) s)) o told)

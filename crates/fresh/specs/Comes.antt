@@ -13,7 +13,7 @@ use Rattle.rules.specs.Outcome.{Next, done}
 use Rattle.rules.specs.Receive.{isMisaddressed, isStale}
 use Rattle.rules.specs.Step.{over, written}
 use Rattle.promise.specs.Promise.{leftBy}
-use Rattle.refuse.specs.Received.{messageIn}
+use Rattle.refuse.specs.Received.{messageHeard}
 use Rattle.obey.specs.Obeyed.{Receives}
 use Rattle.obey.specs.declared.Did.{Did}
 use Rattle.obey.specs.declared.Did.the-variants.{Nothing, Wrote}
@@ -35,5 +35,5 @@ toldBy (Wrote n) k = record { outcome = done; bytes = n }
 pub record Addressed (w : Who) (h : Head) (l : List ℕ) (f : Fields) (s out : List ℕ) : Type 0 where
   pub receives : Receives w l f s out
   pub head : h ≡ headIn l
-  pub addressed : isMisaddressed w (messageIn f s) ≡ false
-  pub fresh : isStale (stateIn l) (messageIn f s) ≡ false
+  pub addressed : isMisaddressed w (messageHeard f s) ≡ false
+  pub fresh : isStale (stateIn l) (messageHeard f s) ≡ false

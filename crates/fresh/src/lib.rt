@@ -3,7 +3,7 @@ ghost use mathlib.Core.Path.{_≡_};
 ghost use Rattle.state.specs.Image.{stateIn};
 ghost use Rattle.rules.specs.Receive.{receive};
 ghost use Rattle.promise.specs.Promise.{whoIn};
-ghost use Rattle.refuse.specs.Received.{messageIn};
+ghost use Rattle.refuse.specs.Received.{messageHeard};
 ghost use Rattle.fresh.specs.Comes.{toldBy, Comes, Addressed};
 use message::Fields;
 use obey::Did;
@@ -43,7 +43,7 @@ pub fn receive_fresh(
     out: &mut [u8],
 ) -> Told
     requires { ⌜ Addressed (whoIn g) h (now state) f (now lines) (now out) ⌝ }
-    ensures { λ r. ⌜ Comes (receive (whoIn g) (stateIn (now (state .entry))) (messageIn f (now (lines .entry)))) (now (state .entry)) (now (out .entry)) r (now (state .exit)) (now (out .exit)) ⌝ }
+    ensures { λ r. ⌜ Comes (receive (whoIn g) (stateIn (now (state .entry))) (messageHeard f (now (lines .entry)))) (now (state .entry)) (now (out .entry)) r (now (state .exit)) (now (out .exit)) ⌝ }
 {
     if h.term.below(f.term) {
         turns::raise_in(g, h, f.term, state);

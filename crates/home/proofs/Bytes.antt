@@ -17,19 +17,19 @@ use Rattle.state.specs.Image.{image, readState, readKept}
 use Rattle.state.proofs.ImageLaws.{readState-image, readKept-image}
 use Rattle.rules.specs.Events.{restart}
 use Rattle.rules.specs.Outcome.{done, not-known, short-output, bad-message}
-use Rattle.rules.specs.Step.{Call, Answer, Event, start-event, propose-event, send-event, restart-event, receive-event, eventOf, refusal, answer, receiving, acting, keptAlone, seen, atState, atEvent, stepOf}
+use Rattle.rules.specs.Step.{Call, Answer, Event, start-event, propose-event, send-event, restart-event, receive-event, eventOf, refusal, answer, receiving, acting, keptAlone, seenBy, atState, atEvent, stepOf}
 use Rattle.rules.specs.Receive.{receive}
 use Rattle.rules.specs.Happens.{Occasion, to-start, to-propose, to-send, to-restart, to-receive, happens}
 use Rattle.kinds.proofs.BoolLaws.{and-first, and-second, cond-either}
 use Rattle.paxos.proofs.Member.{clash}
-use Rattle.home.specs.Hub.{isRestart, textFor, commandFor, messageOf, proposalOf}
+use Rattle.home.specs.Hub.{isRestart, textFor, commandFor, messageMet, proposalOf}
 
 -- ---- what a call brings
 
 -- The call brings this event, with its command and its message.
 pub record Brings (c : Call) (o : Occasion) : Type 0 where
   pub asks : commandFor (eventOf (c .event)) (c .input) ≡ proposalOf o
-  pub reads : (m : Message) → messageOf o ≡ some m → (textFor (eventOf (c .event)) (c .input) ≡ some (c .input)) × (read (c .input) ≡ some m)
+  pub reads : (m : Message) → messageMet o ≡ some m → (textFor (eventOf (c .event)) (c .input) ≡ some (c .input)) × (read (c .input) ≡ some m)
 
 -- A text that is read is heard.
 text-read : (input : List ℕ) (m : Message) → read input ≡ some m → textFor (some receive-event) input ≡ some input
@@ -70,11 +70,11 @@ sees s receive-event = s
 
 -- The call's event sees this state.
 abbrev pub Sees : Call → State → Type 0
-Sees c s = (e : Event) → eventOf (c .event) ≡ some e → seen (c .who) e (c .state) ≡ some (sees s e)
+Sees c s = (e : Event) → eventOf (c .event) ≡ some e → seenBy (c .who) e (c .state) ≡ some (sees s e)
 
 -- It is read from the image.
 pub seen-image : (c : Call) (s : State) → legalState (c .who) s ≡ true → c .state ≡ image s → Sees c s
-unfolding seen keptAlone restart
+unfolding seenBy keptAlone restart
 seen-image c s legal stored start-event is = ap (readState (c .who)) stored ∙ readState-image (c .who) s legal
 seen-image c s legal stored propose-event is = ap (readState (c .who)) stored ∙ readState-image (c .who) s legal
 seen-image c s legal stored send-event is = ap (readState (c .who)) stored ∙ readState-image (c .who) s legal
@@ -84,7 +84,7 @@ seen-image c s legal stored receive-event is = ap (readState (c .who)) stored �
 -- After a loss of power a restart sees the kept parts, whatever stands in place of the lost ones.
 pub seen-kept :
     (c : Call) (s : State) → legalState (c .who) s ≡ true → isRestart (eventOf (c .event)) ≡ true → readKept (c .state) ≡ readKept (image s) → Sees c s
-unfolding seen keptAlone restart isRestart
+unfolding seenBy keptAlone restart isRestart
 seen-kept c s legal is kept start-event e = clash (let z : isRestart (some start-event) ≡ true = rw e at is in cc)
 seen-kept c s legal is kept propose-event e = clash (let z : isRestart (some propose-event) ≡ true = rw e at is in cc)
 seen-kept c s legal is kept send-event e = clash (let z : isRestart (some send-event) ≡ true = rw e at is in cc)

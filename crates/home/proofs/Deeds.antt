@@ -32,19 +32,19 @@ use Rattle.engine.specs.Home.{joining, adding, after, Fair}
 use Rattle.engine.specs.Rules.{Household, met, Heard}
 use Rattle.engine.specs.Written as writing
 use Rattle.engine.specs.Written.{Becomes, stays, meets}
-use Rattle.home.specs.Hub.{Deed, callFor, isRestart, textFor, commandFor, proposalOf, hub-engine, Home, hub-rules, hub-writing}
+use Rattle.home.specs.Hub.{Deed, callFor, isRestart, textFor, commandFor, proposalOf, hub-engine, HomeOfHubs, hub-rules, hub-writing}
 use Rattle.home.proofs.Bytes.{Brings, brings-start, brings-propose, brings-send, brings-restart, brings-receive, Sees, refused-not, seen-image, seen-kept, step-acts, step-either}
 use Rattle.home.proofs.Events as events
 use Rattle.home.proofs.Events.{Stands}
 
 -- The home is the household, written out.
-abbrev pub IsWritten : Home → Household hub-rules → Type 0
+abbrev pub IsWritten : HomeOfHubs → Household hub-rules → Type 0
 IsWritten H W = writing.IsWritten hub-engine hub-rules hub-writing H W
 
 -- ---- what a deed leaves
 
 -- The home after the deed, if this is the answer.
-abbrev left : Home → Deed → Answer → Home
+abbrev left : HomeOfHubs → Deed → Answer → HomeOfHubs
 left H d a =
     record {
       stored = put (H .stored) (d .hub) (cond (eqb (a .outcome) done) (a .state) (H .stored (d .hub)));
@@ -54,7 +54,7 @@ left H d a =
 
 -- After a refusal nothing has happened.
 refused-written :
-    (G : Group) (H : Home) (W : Household hub-rules) (d : Deed) → IsWritten H W → (k : ℕ) → eqb k done ≡ false
+    (G : Group) (H : HomeOfHubs) (W : Household hub-rules) (d : Deed) → IsWritten H W → (k : ℕ) → eqb k done ≡ false
     → IsWritten (left H d (refusal (callFor G d) k)) W
 unfolding refusal joining
 refused-written G H W d is k ne =
@@ -67,7 +67,7 @@ refused-written G H W d is k ne =
     }
 
 -- What was written is read as the message that it is the text of.
-module _ (H : Home) (W : Household hub-rules) (is : IsWritten H W) where
+module _ (H : HomeOfHubs) (W : Household hub-rules) (is : IsWritten H W) where
   -- A text is not empty, so it joins the others.
   joined : (w : Message) → joining (text w) (H .sent) ≡ text w ∷ H .sent
   unfolding joining text
@@ -93,7 +93,7 @@ module _ (H : Home) (W : Household hub-rules) (is : IsWritten H W) where
       (λ e. (text w, subst (λ (l : List (List ℕ)). text w ∈ l) (sym (joined w)) here, read-text w (legal w refl) ∙ ap some (sym e)))
       (λ old. let (t, among, r) = is .messages m old in (t, subst (λ (l : List (List ℕ)). t ∈ l) (sym (joined w)) (there among), r))
 
-module _ (G : Group) (group : isGroup G ≡ true) (H : Home) (W : Household hub-rules) (J : Hall Command) (d : Deed) (is : IsWritten H W)
+module _ (G : Group) (group : isGroup G ≡ true) (H : HomeOfHubs) (W : Household hub-rules) (J : Hall Command) (d : Deed) (is : IsWritten H W)
     (ok : Stands G W J) (own : isHub (G .size) (d .hub) ≡ true) (o : Occasion) (b : Brings (callFor G d) o) (heard : Heard hub-rules (W .sent) o) where
   abbrev n : Next
   n = happens (hubOf G (d .hub)) (W .states (d .hub)) o
@@ -142,7 +142,7 @@ module _ (G : Group) (group : isGroup G ≡ true) (H : Home) (W : Household hub-
 
 -- ---- a deed that may happen
 
-module _ (G : Group) (group : isGroup G ≡ true) (H : Home) (W : Household hub-rules) (J : Hall Command) (d : Deed) (is : IsWritten H W)
+module _ (G : Group) (group : isGroup G ≡ true) (H : HomeOfHubs) (W : Household hub-rules) (J : Hall Command) (d : Deed) (is : IsWritten H W)
     (ok : Stands G W J) (fair : Fair hub-engine H d) where
   -- What is received is a message that was written.
   heard : (o : Occasion) → Brings (callFor G d) o → Heard hub-rules (W .sent) o
@@ -175,14 +175,14 @@ module _ (G : Group) (group : isGroup G ≡ true) (H : Home) (W : Household hub-
 -- ---- a deed for each event
 
 -- Hub h is called for the event with this number, with its stored bytes and room for a message.
-abbrev called : Home → ℕ → ℕ → ℕ → ℕ → List ℕ → Deed
+abbrev called : HomeOfHubs → ℕ → ℕ → ℕ → ℕ → List ℕ → Deed
 called H h event a b input = record { hub = h; event = event; a = a; b = b; state = H .stored h; input = input; output = replicate text-room 0 }
 
 -- The room is enough.
 room : text-room ≤ length (replicate {A = ℕ} text-room 0)
 room = omega (arith, length-replicate {A = ℕ} text-room 0)
 
-module _ (G : Group) (group : isGroup G ≡ true) (H : Home) (W : Household hub-rules) (J : Hall Command) (is : IsWritten H W) (ok : Stands G W J)
+module _ (G : Group) (group : isGroup G ≡ true) (H : HomeOfHubs) (W : Household hub-rules) (J : Hall Command) (is : IsWritten H W) (ok : Stands G W J)
     (h : ℕ) (own : isHub (G .size) h ≡ true) where
   -- A deed with the stored bytes sees the state.
   sees-stored : (d : Deed) → d .state ≡ H .stored (d .hub) → Sees (callFor G d) (W .states (d .hub))

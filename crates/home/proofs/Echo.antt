@@ -36,7 +36,7 @@ use Rattle.rules.specs.Receive.{
   isStale,
   staleReply,
   contradicts,
-  raised,
+  followerAt,
   afterRaise,
   atOwnTerm,
   receive,
@@ -228,27 +228,27 @@ module _ (G : Group) (h : ℕ) (states : ℕ → State) where
     -- A vote-request of another hub: the yes to it tells what the request told.
     vote-polite :
         (last ballot : ℕ) → Stood (states from) t last ballot
-        → Polite states h (record { outcome = 0; state = raised s t; message = some (says w (raised s t) from (vote (raised s t .kept) last ballot)) })
-    unfolding vote says raised withTerm
+        → Polite states h (record { outcome = 0; state = followerAt s t; message = some (says w (followerAt s t) from (vote (followerAt s t .kept) last ballot)) })
+    unfolding vote says followerAt withTerm
     vote-polite last ballot x =
         record {
-          stays = other-term s (raised s t) up;
+          stays = other-term s (followerAt s t) up;
           wrote =
-              cond-either (Echoes (put states h (raised s t)) t h from) (leb (s .kept .ballot) ballot)
+              cond-either (Echoes (put states h (followerAt s t)) t h from) (leb (s .kept .ballot) ballot)
               (λ e.
-              subst (λ (y : State). Stood y t last (s .kept .ballot)) (sym (put-other states h (raised s t) from ne))
+              subst (λ (y : State). Stood y t last (s .kept .ballot)) (sym (put-other states h (followerAt s t) from ne))
               (stood-low (states from) t last ballot (s .kept .ballot) (leb-true (s .kept .ballot) ballot e) x))
               (λ e. tt);
         }
 
-    higher-polite : (to : ℕ) (b : Body) → Echoes states t from to b → PoliteBy states h (raised s t) (rule w (raised s t) from b)
-    unfolding rule isRequest isCandidate raised withTerm
+    higher-polite : (to : ℕ) (b : Body) → Echoes states t from to b → PoliteBy states h (followerAt s t) (rule w (followerAt s t) from b)
+    unfolding rule isRequest isCandidate followerAt withTerm
     higher-polite to (vote-request last ballot) x = vote-polite last ballot x
-    higher-polite to (vote-yes last ballot entries) x = rule-polite (raised s t) (other-term s (raised s t) up) (λ c. clash (cc)) from (vote-yes last ballot entries) refl
-    higher-polite to vote-no x = other-term s (raised s t) up
-    higher-polite to (append prev prevterm chosen entries) x = append-polite (raised s t) from prev prevterm chosen entries
-    higher-polite to (append-yes end) x = end-polite (raised s t) (other-term s (raised s t) up) from end
-    higher-polite to (append-no n) x = other-term s (raised s t) up
+    higher-polite to (vote-yes last ballot entries) x = rule-polite (followerAt s t) (other-term s (followerAt s t) up) (λ c. clash (cc)) from (vote-yes last ballot entries) refl
+    higher-polite to vote-no x = other-term s (followerAt s t) up
+    higher-polite to (append prev prevterm chosen entries) x = append-polite (followerAt s t) from prev prevterm chosen entries
+    higher-polite to (append-yes end) x = end-polite (followerAt s t) (other-term s (followerAt s t) up) from end
+    higher-polite to (append-no n) x = other-term s (followerAt s t) up
 
   -- The outcome's number is no matter here.
   raised-polite : (r : State) (e : Effect) → PoliteBy states h r e → Polite states h (afterRaise r e)
@@ -284,7 +284,7 @@ module _ (G : Group) (h : ℕ) (states : ℕ → State) where
       (λ y.
       cond-either (Polite states h) (ltb (s .kept .term) (m .term))
       (λ v.
-      raised-polite (raised s (m .term)) _
+      raised-polite (followerAt s (m .term)) _
       (higher-polite (m .term) (ltb-true (s .kept .term) (m .term) v) (m .from)
       (eqb-false (m .from) h (or-first self astray (or-second far (self || astray) z))) (m .to) (m .body) x))
       (λ v.

@@ -30,7 +30,7 @@ use Rattle.engine.specs.Rules.{Household, Heard}
 use Rattle.engine.specs.Facts as facts
 use Rattle.engine.proofs.Stands.{adding-cases}
 use Rattle.home.specs.View.{machine}
-use Rattle.home.specs.Hub.{messageOf, hub-rules}
+use Rattle.home.specs.Hub.{messageMet, hub-rules}
 use Rattle.home.specs.Stands.{Logs, Ground, InRole, Rooted}
 use Rattle.home.specs.Facts.{Stood, Echoes, Proper, hub-facts}
 use Rattle.home.proofs.Frame.{Later, standing-on, leading-on, true-on, Goes, framed}
@@ -62,7 +62,7 @@ module _ (G : Group) (H : Hall Command) (made : Logs) (c : Command) where
 
   asked-ground : Ground G H made → Ground G (asking H c) made
   asked-ground ok =
-      record { faithful = act-faithful (ok .faithful) Act.ask; matching = ok .matching; proposals = λ t i e q. there (ok .proposals t i e q) }
+      record { faithful = act-faithful (ok .faithful) Act.to-ask; matching = ok .matching; proposals = λ t i e q. there (ok .proposals t i e q) }
 
 -- ---- one event
 
@@ -118,7 +118,7 @@ module _ (G : Group) (group : isGroup G ≡ true) (W : Household hub-rules) (H :
   event-among : (o : Occasion) → Heard hub-rules (W .sent) o → let n = happens (hubOf G h) s o in Proper G (put (W .states) h (n .state)) (adding (n .message) (W .sent))
   event-among o i =
       let n = happens (hubOf G h) s o in
-      let polite = event-polite G h (W .states) o (λ m e. ok .among .echoes m (i m (ap messageOf e))) in
+      let polite = event-polite G h (W .states) o (λ m e. ok .among .echoes m (i m (ap messageMet e))) in
       let grows = nothing-falls (hubOf G h) s o (meets o i) in
       record {
         legal =
@@ -144,7 +144,7 @@ module _ (G : Group) (group : isGroup G ≡ true) (W : Household hub-rules) (H :
 -- ---- all of it
 
 -- The hubs keep the facts.
-pub hub-kept : (G : Group) → isGroup G ≡ true → facts.Kept G (hub-facts G)
+pub hub-kept : (G : Group) → isGroup G ≡ true → facts.FactsKept G (hub-facts G)
 unfolding fresh
 hub-kept G group =
     record {

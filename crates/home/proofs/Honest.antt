@@ -19,7 +19,7 @@ use Rattle.message.specs.Legal.{legalTo, legalMessage}
 use Rattle.state.specs.State.{Kept, Lost, follower, candidate, leader, State}
 use Rattle.rules.specs.Outcome.{Next, done, not-addressed, contradicting}
 use Rattle.rules.specs.Events.{isLeader, isCandidate, len, start, proposeLeading, propose, send, restart}
-use Rattle.rules.specs.Receive.{Effect, idle, effect, isMisaddressed, isRequest, isStale, contradicts, raised, afterRaise, atOwnTerm, receive}
+use Rattle.rules.specs.Receive.{Effect, idle, effect, isMisaddressed, isRequest, isStale, contradicts, followerAt, afterRaise, atOwnTerm, receive}
 use Rattle.rules.specs.Happens.{Occasion, to-start, to-propose, to-send, to-restart, to-receive, happens}
 use Rattle.kinds.proofs.BoolLaws.{or-first, or-second, cond-either}
 use Rattle.rules.proofs.LegalLaws.{legalMessage-is}
@@ -121,7 +121,7 @@ never-contradicting {G} {H} {made} ok {h} states f m t lm x =
     (λ z.
     cond-either P (old || again) (λ y q. clash (cc))
     (λ y.
-    cond-either P (ltb (s .kept .term) (m .term)) (λ v. higher-agrees (raised s (m .term)) _)
+    cond-either P (ltb (s .kept .term) (m .term)) (λ v. higher-agrees (followerAt s (m .term)) _)
     (λ v.
     let same : m .term ≡ s .kept .term = omega (arith, ltb-false (s .kept .term) (m .term) v, ltb-false (m .term) (s .kept .term) (or-first old again y)) in
     let fine : contradicts s (m .body) ≡ false =
@@ -171,5 +171,5 @@ happens-beyond w s (to-receive m) =
     (λ e.
     cond-either Beyond (isStale s m) (λ e. inr (omega arith))
     (λ e.
-    cond-either Beyond (ltb (s .kept .term) (m .term)) (λ e. raised-beyond (raised s (m .term)) _)
+    cond-either Beyond (ltb (s .kept .term) (m .term)) (λ e. raised-beyond (followerAt s (m .term)) _)
     (λ e. cond-either Beyond (contradicts s (m .body)) (λ e. inr (omega arith)) (λ e. own-beyond s _))))

@@ -25,7 +25,7 @@ use Rattle.paxos.proofs.Member.{clash}
 use Rattle.paxos.proofs.PutLaws.{put-cases}
 use Rattle.views.specs.Hall.{Hall}
 use Rattle.views.proofs.Moves.{as-view, extend}
-use Rattle.home.specs.View.{tells, holdsOf, viewOf}
+use Rattle.home.specs.View.{entryCounts, holdsOf, viewOf}
 use Rattle.home.specs.Stands.{Logs, Ground, Rooted}
 use Rattle.kinds.proofs.AtLaws.{at-in, at-out, at-first, at-second}
 use Rattle.home.proofs.ViewLaws.{holds-entry, holds-none}
@@ -56,7 +56,7 @@ held-more b l e =
 
     other : (p : ℕ) → p ≢ suc (length l) → holdsOf b l p ≡ holdsOf b (l ++ (e ∷ [])) p
     other zero ne = refl
-    other (suc i) ne = ap (tells b) (at-other i (omega arith) (decLt i (length l)))
+    other (suc i) ne = ap (entryCounts b) (at-other i (omega arith) (decLt i (length l)))
 
 module _ {G : Group} {H : Hall Command} {made : Logs} (ok : Ground G H made) {h : ℕ} (w : IsWho (hubOf G h)) where
   -- The hub leads, its ballot being its term.

@@ -28,7 +28,7 @@ use Rattle.rules.specs.Receive.{
   isStale,
   staleReply,
   contradicts,
-  raised,
+  followerAt,
   afterRaise,
   atOwnTerm,
   receive,
@@ -131,13 +131,13 @@ module _ {G : Group} {H : Hall Command} {made : Logs} (ok : Ground G H made) {h 
   -- A message of a higher term: the hub reaches that term first, and obeys there as a follower.
   obeys-above :
       (t from to : ℕ) (b : Body) → s .kept .term < t → Arrives G H made h t from to b → isRequest b ≡ false
-      → GoesBy G H made h (raised s t) (rule (hubOf G h) (raised s t) from b)
-  unfolding raised withTerm legalLost
+      → GoesBy G H made h (followerAt s t) (rule (hubOf G h) (followerAt s t) from b)
+  unfolding followerAt withTerm legalLost
   obeys-above t from to b higher a r =
-      by (rule (hubOf G h) (raised s t) from b)
+      by (rule (hubOf G h) (followerAt s t) from b)
       (obeys (ground-on ok (x .acts)) w (record { view = x .mine; prefix = f .prefix; role = tt }) refl from to b later-on r (follower-agrees _ b))
     where
-      x : Move (machine G) H h (viewOf (raised s t .kept))
+      x : Move (machine G) H h (viewOf (followerAt s t .kept))
       x = raised-move ok w f t higher
 
       later-on : Arrives G (x .hall) made h t from to b
@@ -151,12 +151,12 @@ module _ {G : Group} {H : Hall Command} {made : Logs} (ok : Ground G H made) {h 
             mine = a .mine;
           }
 
-      by : (e : Effect) → GoesBy G (x .hall) made h (raised s t) e → GoesBy G H made h (raised s t) e
+      by : (e : Effect) → GoesBy G (x .hall) made h (followerAt s t) e → GoesBy G H made h (followerAt s t) e
       by idle g = goes-on ok x g
       by (effect next m) g = goes-on ok x g
 
   higher-goes :
-      (t from to : ℕ) (b : Body) → s .kept .term < t → Arrives G H made h t from to b → GoesBy G H made h (raised s t) (rule (hubOf G h) (raised s t) from b)
+      (t from to : ℕ) (b : Body) → s .kept .term < t → Arrives G H made h t from to b → GoesBy G H made h (followerAt s t) (rule (hubOf G h) (followerAt s t) from b)
   unfolding rule isRequest
   higher-goes t from to (vote-request last ballot) up a = request-goes ok w f t up from last ballot
   higher-goes t from to (vote-yes last ballot entries) up a = obeys-above t from to _ up a refl
@@ -176,7 +176,7 @@ module _ {G : Group} {H : Hall Command} {made : Logs} (ok : Ground G H made) {h 
   stale-true from (append-no n) = tt
 
   -- The outcome's number is no matter here.
-  raised-goes : (t : ℕ) (e : Effect) → GoesBy G H made h (raised s t) e → let n = afterRaise (raised s t) e in Goes G H made h (n .state) (n .message)
+  raised-goes : (t : ℕ) (e : Effect) → GoesBy G H made h (followerAt s t) e → let n = afterRaise (followerAt s t) e in Goes G H made h (n .state) (n .message)
   unfolding afterRaise
   raised-goes t idle g = g
   raised-goes t (effect next m) g = g

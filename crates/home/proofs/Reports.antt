@@ -12,7 +12,7 @@ use lib.ListN.{length, take, length-map}
 use lib.Seq.{length-take-le}
 use Rattle.command.specs.Command.{Command, command-size}
 use Rattle.command.specs.Entry.{Entry}
-use Rattle.state.specs.State.{Kept, reported, reportedAt}
+use Rattle.state.specs.State.{Kept, reportedBy, reportedAt}
 use Rattle.state.specs.Image.{readKept, reportedIn}
 use Rattle.state.proofs.ImageLaws.{readKept-sound}
 use Rattle.rules.specs.Outcome.{done, bad-state, short-output, out-of-range}
@@ -31,7 +31,7 @@ use Rattle.kinds.specs.Packed.{packed}
 
 -- What is reported the view says.
 reported-says : (k : Kept) (p : ℕ) (c : Command) → reportedAt k p ≡ some c → Says (viewOf k) p c
-unfolding reportedAt reported
+unfolding reportedAt reportedBy
 reported-says k zero c q = clash (cc)
 reported-says k (suc i) c q =
     let (e, taken, is) = at-map (λ (x : Entry). x .command) (take (k .chosen) (k .log)) i c q in
@@ -40,7 +40,7 @@ reported-says k (suc i) c q =
 
 -- And the other way round.
 says-reported : (k : Kept) (p : ℕ) (c : Command) → Says (viewOf k) p c → reportedAt k p ≡ some c
-unfolding reportedAt reported
+unfolding reportedAt reportedBy
 says-reported k p c r =
     let (i, place, lt) = said-lt (k .chosen) p (r .says) in
     let x = holds-is (k .ballot) (k .log) p (r .ballot) c (r .holds) in
@@ -97,8 +97,8 @@ handed-is-reported l p out = by (readKept l) refl
     by (some k) e = at k e (ltb (length out) command-size) refl (reportedAt k p) refl
 
 -- As many as are chosen.
-reported-length : (k : Kept) → k .chosen ≤ length (k .log) → length (reported k) ≡ k .chosen
-unfolding reported
+reported-length : (k : Kept) → k .chosen ≤ length (k .log) → length (reportedBy k) ≡ k .chosen
+unfolding reportedBy
 reported-length k le = length-map (take (k .chosen) (k .log)) (λ (e : Entry). e .command) ∙ length-take-le (k .chosen) (k .log) le
 
 -- What is counted is reported.
@@ -109,8 +109,8 @@ counted-is-reported l n p h = by (readKept l) refl
     places : (k : Kept) → k .chosen ≤ length (k .log) → (p : ℕ) → ((1 ≤ p) × (p ≤ k .chosen)) ↔ ((c : Command) × (reportedAt k p ≡ some c))
     places k le zero = (λ (a, b). absurd (omega arith), λ (c, q). clash (cc))
     places k le (suc i) = (
-      λ (a, b). at-in (reported k) i (omega (arith, reported-length k le)),
-      λ (c, q). (omega arith, omega (arith, reported-length k le, at-lt (reported k) i c q)),
+      λ (a, b). at-in (reportedBy k) i (omega (arith, reported-length k le)),
+      λ (c, q). (omega arith, omega (arith, reported-length k le, at-lt (reportedBy k) i c q)),
     )
 
     by : (x : Option Kept) → readKept l ≡ x → ((1 ≤ p) × (p ≤ n)) ↔ ((c : Command) × (reportedIn l p ≡ some c))

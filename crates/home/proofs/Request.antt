@@ -11,7 +11,7 @@ use Rattle.command.specs.Entry.{Entry}
 use Rattle.message.specs.Message.{Body}
 use Rattle.state.specs.State.{State}
 use Rattle.rules.specs.Events.{says, withTerm}
-use Rattle.rules.specs.Receive.{vote, raised}
+use Rattle.rules.specs.Receive.{vote, followerAt}
 use Rattle.kinds.proofs.BoolLaws.{cond-either}
 use Rattle.rules.proofs.LegalLaws.{IsWho}
 use Rattle.paxos.specs.Paxos.{_∈_}
@@ -19,7 +19,7 @@ use Rattle.views.specs.Hall.{gave, Hall}
 use Rattle.views.specs.Moves.{Move}
 use Rattle.views.proofs.Moves.{reach, answer}
 use Rattle.kinds.specs.Sizes.{Group, hubOf}
-use Rattle.home.specs.View.{machine, tells, holdsOf, viewOf}
+use Rattle.home.specs.View.{machine, entryCounts, holdsOf, viewOf}
 use Rattle.home.specs.Stands.{Logs, Ground, Yields, Rooted}
 use Rattle.kinds.proofs.AtLaws.{at-drop}
 use Rattle.home.proofs.ViewLaws.{holds-is}
@@ -35,23 +35,23 @@ yields h t to last b log given =
       seen = holdsOf b log;
       given = given;
       low = λ p k c e. let x = holds-is b log p k c e in omega (arith, x .ballot);
-      beyond = λ i. ap (tells b) (sym (at-drop last log i));
+      beyond = λ i. ap (entryCounts b) (sym (at-drop last log i));
     }
 
 module _ {G : Group} {H : Hall Command} {made : Logs} (ok : Ground G H made) {h : ℕ} (w : IsWho (hubOf G h)) {s : State} (f : Rooted G H made h s)
     (t : ℕ) (higher : s .kept .term < t) where
   -- The hub raises its term.
-  pub raised-move : Move (machine G) H h (viewOf (raised s t .kept))
-  unfolding raised withTerm
+  pub raised-move : Move (machine G) H h (viewOf (followerAt s t .kept))
+  unfolding followerAt withTerm
   raised-move = reach (is-hub w) (f .view) t (omega arith)
 
   -- It answers yes or no.
   pub request-goes :
-      (from last ballot : ℕ) → Goes G H made h (raised s t) (some (says (hubOf G h) (raised s t) from (vote (raised s t .kept) last ballot)))
-  unfolding raised withTerm vote says
+      (from last ballot : ℕ) → Goes G H made h (followerAt s t) (some (says (hubOf G h) (followerAt s t) from (vote (followerAt s t .kept) last ballot)))
+  unfolding followerAt withTerm vote says
   request-goes from last ballot =
       cond-either
-      (λ (b : Body). Goes G H made h (raised s t) (some (record { term = t; from = h; to = from; body = b })))
+      (λ (b : Body). Goes G H made h (followerAt s t) (some (record { term = t; from = h; to = from; body = b })))
       (leb (s .kept .ballot) ballot)
       (λ e.
       let (x, given) = answer (ok .faithful) (is-hub w) (f .view) t from higher in

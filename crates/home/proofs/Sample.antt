@@ -21,7 +21,7 @@ use Rattle.state.proofs.ImageLaws.{readKept-image}
 use Rattle.rules.specs.Outcome.{done}
 use Rattle.rules.specs.Step.{eventOf, stepOf}
 use Rattle.rules.specs.Happens.{Occasion, to-start, to-propose, to-send, to-receive, happens}
-use Rattle.rules.specs.Samples.{buzz, buzzBytes, ms250, half}
+use Rattle.rules.specs.Samples.{buzz, buzzBytes, ms250, halfGain}
 use Rattle.rules.proofs.Computed.{computed}
 use Rattle.paxos.specs.Put.{put}
 use Rattle.paxos.specs.Paxos.{_∈_, here, there}
@@ -32,7 +32,7 @@ use Rattle.engine.specs.Rules.{Household, fresh-household, met, Meetings, none-
 use Rattle.engine.proofs.RunsLaws.{runs-one, runs-trans}
 use Rattle.engine.proofs.Stands.{meetings-stand}
 use Rattle.engine.proofs.Upholds.{meetings-run}
-use Rattle.home.specs.Hub.{Deed, callFor, textFor, isRestart, hub-engine, Home, hub-rules}
+use Rattle.home.specs.Hub.{Deed, callFor, textFor, isRestart, hub-engine, HomeOfHubs, hub-rules}
 use Rattle.home.proofs.Events.{hub-kept}
 use Rattle.home.proofs.Deeds.{IsWritten, enacted}
 use Rattle.home.proofs.Theorems.{hub-writes, stability}
@@ -67,7 +67,7 @@ confirmed =
     then
     (then
     (then
-    (then (then (then elected 1 (to-propose (buzzBytes ms250 half))) 1 (to-send 3 0)) 1 (to-send 2 0))
+    (then (then (then elected 1 (to-propose (buzzBytes ms250 halfGain))) 1 (to-send 3 0)) 1 (to-send 2 0))
     2 (to-receive (says 1 1 2 (append 0 0 0 (entry ∷ [])))))
     2 (to-receive (says 1 1 2 (append 0 0 0 (entry ∷ [])))))
     1 (to-receive (says 1 2 1 (append-yes 1)))
@@ -98,7 +98,7 @@ run : Meetings hub-rules trio final
 unfolding computed put happens met adding
 run =
     let a = hears _ (hears _ (alone _ none-yet 1 refl to-start refl) 2 refl _ here) 1 refl _ here in
-    let b = alone _ (alone _ (alone _ a 1 refl (to-propose (buzzBytes ms250 half)) refl) 1 refl (to-send 3 0) refl) 1 refl (to-send 2 0) refl in
+    let b = alone _ (alone _ (alone _ a 1 refl (to-propose (buzzBytes ms250 halfGain)) refl) 1 refl (to-send 3 0) refl) 1 refl (to-send 2 0) refl in
     let c = hears _ (hears _ (hears _ b 2 refl _ here) 2 refl _ (there here)) 1 refl _ here in
     let d = hears _ (hears _ (alone _ c 2 refl to-start refl) 3 refl _ here) 2 refl _ here in
     hears _ (hears _ (alone _ d 2 refl (to-send 3 0) refl) 3 refl _ here) 2 refl _ here
@@ -133,7 +133,7 @@ unfolding computed put happens met adding callFor
 comes-back-done = refl
 
 -- Of an append that hub 2 receives in this home, only the beginning comes.
-abbrev damaged : Home → Deed
+abbrev damaged : HomeOfHubs → Deed
 damaged H = record { hub = 2; event = 5; a = 0; b = 0; state = H .stored 2; input = ascii "type=append\nter"; output = replicate text-room 0 }
 
 -- It can't be read.
@@ -141,7 +141,7 @@ unread : read (ascii "type=append\nter") ≡ none
 unfolding computed
 unread = refl
 
-module _ (H : Home) (is : IsWritten H final) (legal : legalState (hubOf trio 1) (final .states 1) ≡ true) where
+module _ (H : HomeOfHubs) (is : IsWritten H final) (legal : legalState (hubOf trio 1) (final .states 1) ≡ true) where
   -- Both may happen.
   comes-back-fair : Fair hub-engine H comes-back
   unfolding eventOf textFor isRestart
@@ -153,13 +153,13 @@ module _ (H : Home) (is : IsWritten H final) (legal : legalState (hubOf trio 1) 
             (refl, scrambled-kept ∙ sym (readKept-image (hubOf trio 1) (final .states 1) legal) ∙ ap readKept (sym (is .states 1)));
       }
 
-damaged-fair : (H : Home) → Fair hub-engine H (damaged H)
+damaged-fair : (H : HomeOfHubs) → Fair hub-engine H (damaged H)
 unfolding eventOf textFor
 damaged-fair H = record { honest = λ t q. clash (let none-heard : none ≡ some t = rw (unread, textFor) at q in cc); stored = inl refl }
 
 -- What a hub reports in the household it reports in the home.
 reports-written :
-    {H : Home} → IsWritten H final → (h : ℕ) → legalState (hubOf trio h) (final .states h) ≡ true → reportedAt (final .states h .kept) 1 ≡ some buzz
+    {H : HomeOfHubs} → IsWritten H final → (h : ℕ) → legalState (hubOf trio h) (final .states h) ≡ true → reportedAt (final .states h .kept) 1 ≡ some buzz
     → Reports hub-engine H h 1 buzz
 unfolding reportedIn
 reports-written {H} is h legal r =
@@ -169,7 +169,7 @@ reports-written {H} is h legal r =
 
 -- So there is a home of three, started fresh, in which two leaders, one after the other, report a command, and go on reporting it after
 -- the one has lost power and the other has received a damaged text.
-pub sample-home : (I : Home) × Reached hub-engine trio I × Reports hub-engine I 1 1 buzz × Reports hub-engine I 2 1 buzz
+pub sample-home : (I : HomeOfHubs) × Reached hub-engine trio I × Reports hub-engine I 1 1 buzz × Reports hub-engine I 2 1 buzz
 unfolding computed
 sample-home =
     let kept = hub-kept trio refl in

@@ -23,7 +23,7 @@ use Rattle.views.specs.Hall.{gave, Hall}
 use Rattle.views.specs.Best.{Top}
 use Rattle.views.proofs.Moves.{answer}
 use Rattle.views.proofs.BestLaws.{top-one}
-use Rattle.home.specs.View.{tells, holdsOf, counts, tally}
+use Rattle.home.specs.View.{entryCounts, holdsOf, pairCounts, tally}
 use Rattle.kinds.specs.Hubs.{ofHub}
 use Rattle.home.specs.Stands.{Logs, Ground, Standing, Rooted}
 use Rattle.engine.proofs.HubsLaws.{setHub-cases, setHub-put, ofHub-replicate}
@@ -36,7 +36,7 @@ is-hub w = record { low = w .first; high = w .last }
 -- What a candidate would propose before it has gathered anything: what it holds.
 tally-alone :
     (b : ℕ) (log : List Entry) (i : ℕ)
-    → tells b (getElem? log i) ≡ counts (getElem? (map (λ e. record { ballot = b; command = e .command }) log ++ []) i)
+    → entryCounts b (getElem? log i) ≡ pairCounts (getElem? (map (λ e. record { ballot = b; command = e .command }) log ++ []) i)
 tally-alone b [] i = refl
 tally-alone b (e ∷ log) zero = refl
 tally-alone b (e ∷ log) (suc i) = tally-alone b log i
@@ -57,7 +57,7 @@ alone {H} h k low le given =
           (λ g ne e. let z = ofHub-replicate hubs-most false g in clash (cc));
       best =
           λ i.
-          subst (λ (Q : ℕ → Bool). Top Q (λ g. holdsOf (k .ballot) (k .log) (suc i)) (counts (getElem? (tally k []) i)))
+          subst (λ (Q : ℕ → Bool). Top Q (λ g. holdsOf (k .ballot) (k .log) (suc i)) (pairCounts (getElem? (tally k []) i)))
           (ap (λ (Q : ℕ → Bool). put Q h true) (sym none-else) ∙ setHub-put nobody false true h low le)
           (top-one h (λ g. holdsOf (k .ballot) (k .log) (suc i)) _ (tally-alone (k .ballot) (k .log) i));
     }

@@ -18,7 +18,7 @@ use Rattle.paxos.proofs.PutLaws.{put-cases, put-same, put-other}
 use Rattle.views.specs.Hall.{gave, Hall}
 use Rattle.views.specs.Best.{better}
 use Rattle.views.proofs.BestLaws.{top-more}
-use Rattle.home.specs.View.{tells, counts, tally}
+use Rattle.home.specs.View.{entryCounts, pairCounts, tally}
 use Rattle.home.specs.Stands.{Yields, Standing}
 use Rattle.kinds.proofs.AtLaws.{at-in, at-first, at-second, in-map}
 use Rattle.engine.proofs.HubsLaws.{setHub-cases, setHub-put}
@@ -67,24 +67,24 @@ tally-beyond k gathered j =
 module _ {H : Hall Command} {h : ℕ} {k : Kept} {voters : List Bool} {gathered : List Pair} (x : Standing H h k voters gathered)
     (g b : ℕ) (entries : List Entry) (first : 1 ≤ g) (within : g ≤ length voters) (unheard : ofHub voters false g ≡ false)
     (y : Yields H g (k .term) h (length (k .log)) b entries) (below : b ≤ k .ballot) (next : List Pair)
-    (kept : (i : ℕ) → better (counts (getElem? gathered i)) (tells b (getElem? entries i)) ≡ counts (getElem? next i)) where
+    (kept : (i : ℕ) → better (pairCounts (getElem? gathered i)) (entryCounts b (getElem? entries i)) ≡ pairCounts (getElem? next i)) where
   -- The better of what the hub would propose and of the new report is what it would propose next.
   tally-more :
       (i : ℕ) → Dec (i < length (k .log))
-      → better (counts (getElem? (tally k gathered) i)) (y .seen (suc i)) ≡ counts (getElem? (tally k next) i)
+      → better (pairCounts (getElem? (tally k gathered) i)) (y .seen (suc i)) ≡ pairCounts (getElem? (tally k next) i)
   tally-more i (yes lt) =
       let (e, q) = at-in (k .log) i lt in
-      ap (λ (o : Option Pair). better (counts o) (y .seen (suc i))) (tally-log k gathered i e q)
+      ap (λ (o : Option Pair). better (pairCounts o) (y .seen (suc i))) (tally-log k gathered i e q)
       ∙ better-low (k .ballot) (e .command) (y .seen (suc i)) (λ c d s. omega (arith, y .low (suc i) c d s))
-      ∙ ap counts (sym (tally-log k next i e q))
+      ∙ ap pairCounts (sym (tally-log k next i e q))
   tally-more i (no ge) =
       let j = i - length (k .log) in
       let place : length (k .log) + j ≡ i = omega arith in
-      subst (λ (n : ℕ). better (counts (getElem? (tally k gathered) n)) (y .seen (suc n)) ≡ counts (getElem? (tally k next) n)) place
-      (ap (λ (o : Option Pair). better (counts o) (y .seen (suc (length (k .log) + j)))) (tally-beyond k gathered j)
-      ∙ ap (better (counts (getElem? gathered j))) (y .beyond j)
+      subst (λ (n : ℕ). better (pairCounts (getElem? (tally k gathered) n)) (y .seen (suc n)) ≡ pairCounts (getElem? (tally k next) n)) place
+      (ap (λ (o : Option Pair). better (pairCounts o) (y .seen (suc (length (k .log) + j)))) (tally-beyond k gathered j)
+      ∙ ap (better (pairCounts (getElem? gathered j))) (y .beyond j)
       ∙ kept j
-      ∙ ap counts (sym (tally-beyond k next j)))
+      ∙ ap pairCounts (sym (tally-beyond k next j)))
 
   -- The reports on one place, with the new one.
   reports-more : (p : ℕ) → put (λ f. x .seen f p) g (y .seen p) ≡ (λ f. put (x .seen) g (y .seen) f p)
@@ -102,6 +102,6 @@ module _ {H : Hall Command} {h : ℕ} {k : Kept} {voters : List Bool} {gathered 
         best =
             λ i.
             let more =
-            top-more (ofHub voters false) (λ f. x .seen f (suc i)) g (counts (getElem? (tally k gathered) i)) (y .seen (suc i)) unheard (x .best i) in
+            top-more (ofHub voters false) (λ f. x .seen f (suc i)) g (pairCounts (getElem? (tally k gathered) i)) (y .seen (suc i)) unheard (x .best i) in
             rw (sym (setHub-put voters false true g first within), sym (reports-more (suc i)), sym (tally-more i (decLt i (length (k .log))))) more;
       }

@@ -27,11 +27,11 @@ use Rattle.views.specs.Hall.{blank}
 use Rattle.engine.specs.Home.{Reached}
 use Rattle.engine.specs.Safe.{Simulation, Explained, Agreement, Stability, Validity}
 use Rattle.engine.specs.Upholds.{Upholds}
-use Rattle.engine.specs.Written.{Writes}
+use Rattle.engine.specs.Written.{WritesOut}
 use Rattle.engine.proofs.Upholds.{Over, upholds}
 use Rattle.engine.proofs.Theorems as engine
 use Rattle.home.specs.View.{viewOf, viewIn}
-use Rattle.home.specs.Hub.{callFor, hub-engine, Home, hub-rules, hub-writing}
+use Rattle.home.specs.Hub.{callFor, hub-engine, HomeOfHubs, hub-rules, hub-writing}
 use Rattle.home.specs.Facts.{hub-facts}
 use Rattle.home.specs.Safe.{Demand3, SomebodyProposed, HandedAgree, LegalStates, NeverBadState, LegalMessages, NeverContradicted}
 use Rattle.home.proofs.Bytes.{Refused, unknown, short, unread, step-either, step-receives}
@@ -49,7 +49,7 @@ unfolding viewIn
 image-view G h s legal = sym (ap (λ (x : Option Kept). elim x [ none ↦ blank | some k ↦ viewOf k ]) (readKept-image (hubOf G h) s legal))
 
 module _ (G : Group) (group : isGroup G ≡ true) where
-  pub hub-writes : Writes hub-engine hub-rules hub-writing G (hub-facts G)
+  pub hub-writes : WritesOut hub-engine hub-rules hub-writing G (hub-facts G)
   hub-writes =
       record {
         fresh = record { states = λ h. refl; texts = λ t i. nothing i; messages = λ m i. nothing i; orders = refl };
@@ -116,7 +116,7 @@ handed-agree G H I g h p out more r runs a b =
 -- ---- what an honest hub is never told
 
 -- What stands over a home that started fresh.
-standing : (G : Group) (H : Home) (r : Reached hub-engine G H) → Over hub-engine hub-rules hub-writing G (hub-facts G) H (engine.reached (hub-upholds G (r .group)) H r .hall)
+standing : (G : Group) (H : HomeOfHubs) (r : Reached hub-engine G H) → Over hub-engine hub-rules hub-writing G (hub-facts G) H (engine.reached (hub-upholds G (r .group)) H r .hall)
 standing G H r = engine.reached (hub-upholds G (r .group)) H r .over
 
 -- Every stored state is legal.

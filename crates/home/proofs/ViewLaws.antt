@@ -14,13 +14,13 @@ use Rattle.kinds.proofs.BetweenLaws.{between-in, between-true}
 use Rattle.paxos.specs.Paxos.{never, at}
 use Rattle.paxos.proofs.Member.{clash}
 use Rattle.views.specs.Hall.{blank}
-use Rattle.home.specs.View.{tells, holdsOf, viewOf}
+use Rattle.home.specs.View.{entryCounts, holdsOf, viewOf}
 use Rattle.kinds.proofs.AtLaws.{at-out}
 
 -- ---- what a log counts as
 
 -- The entry behind something that is told.
-tells-is : (b : ℕ) (x : Option Entry) (k : ℕ) (c : Command) → tells b x ≡ at k c → (k ≡ b) × ((e : Entry) × (x ≡ some e) × (c ≡ e .command))
+tells-is : (b : ℕ) (x : Option Entry) (k : ℕ) (c : Command) → entryCounts b x ≡ at k c → (k ≡ b) × ((e : Entry) × (x ≡ some e) × (c ≡ e .command))
 tells-is b none k c h = clash (cc)
 tells-is b (some e) k c h = (cc, (e, refl, cc))
 
@@ -44,13 +44,13 @@ holds-is b log (suc i) k c h =
 -- An entry of the log is held.
 pub holds-entry : (b : ℕ) (log : List Entry) (i : ℕ) (e : Entry) → getElem? log i ≡ some e → holdsOf b log (suc i) ≡ at b (e .command)
 unfolding holdsOf
-holds-entry b log i e h = ap (tells b) h
+holds-entry b log i e h = ap (entryCounts b) h
 
 -- Beyond the log nothing is held.
 pub holds-none : (b : ℕ) (log : List Entry) (p : ℕ) → length log < p → holdsOf b log p ≡ never
 unfolding holdsOf
 holds-none b log zero lt = refl
-holds-none b log (suc i) lt = ap (tells b) (at-out log i (omega arith))
+holds-none b log (suc i) lt = ap (entryCounts b) (at-out log i (omega arith))
 
 -- A place that is reported is i + 1 with i below the count of chosen places.
 pub said-lt : (n p : ℕ) → between 1 n p ≡ true → (i : ℕ) × (p ≡ suc i) × (i < n)

@@ -99,18 +99,18 @@ hub-engine =
     }
 
 -- A home of these hubs.
-abbrev pub Home : Type 0
-Home = homes.Home hub-engine
+abbrev pub HomeOfHubs : Type 0
+HomeOfHubs = homes.Home hub-engine
 
 -- ---- on values
 
 -- The message that a hub receives.
-abbrev pub messageOf : Occasion → Option Message
-messageOf to-start = none
-messageOf (to-propose bytes) = none
-messageOf (to-send peer prev) = none
-messageOf to-restart = none
-messageOf (to-receive m) = some m
+abbrev pub messageMet : Occasion → Option Message
+messageMet to-start = none
+messageMet (to-propose bytes) = none
+messageMet (to-send peer prev) = none
+messageMet to-restart = none
+messageMet (to-receive m) = some m
 
 -- The command that it is asked to propose.
 abbrev pub proposalOf : Occasion → Option Command
@@ -132,7 +132,7 @@ hub-rules =
           λ G h s o.
           let n = happens (hubOf G h) s o in
           record { took-effect = eqb (n .outcome) done; state = n .state; message = n .message };
-      hears = messageOf;
+      hears = messageMet;
       asks = proposalOf;
     }
 

@@ -19,7 +19,7 @@ use Rattle.rules.specs.Step.{receive-event, eventOf, stepOf}
 use Rattle.paxos.specs.Paxos.{_∈_}
 use Rattle.engine.specs.Home.{Fair, Runs, Reached}
 use Rattle.engine.specs.Safe.{Reports, Safety}
-use Rattle.home.specs.Hub.{Deed, callFor, hub-engine, Home}
+use Rattle.home.specs.Hub.{Deed, callFor, hub-engine, HomeOfHubs}
 use Rattle.kinds.specs.Packed.{packed}
 
 -- All of demand 3, for 3, 5 and 7 hubs at once.
@@ -28,7 +28,7 @@ Demand3 = (G : Group) → isGroup G ≡ true → Safety hub-engine G
 
 -- A hub of the group took every reported command from a client, with outcome 0.
 abbrev pub SomebodyProposed : Type 0
-SomebodyProposed = (G : Group) (H : Home) (h p : ℕ) (c : Command) → Reached hub-engine G H → Reports hub-engine H h p c → c ∈ H .orders
+SomebodyProposed = (G : Group) (H : HomeOfHubs) (h p : ℕ) (c : Command) → Reached hub-engine G H → Reports hub-engine H h p c → c ∈ H .orders
 
 -- ---- what C is told
 
@@ -50,7 +50,7 @@ CountedIsReported =
 -- Whatever kritnamon_reported hands over for a place, at any two hubs and any two moments of a run, is the same 16 bytes.
 abbrev pub HandedAgree : Type 0
 HandedAgree =
-    (G : Group) (H I : Home) (g h p : ℕ) (out more : List ℕ) → Reached hub-engine G H → Runs hub-engine G H I
+    (G : Group) (H I : HomeOfHubs) (g h p : ℕ) (out more : List ℕ) → Reached hub-engine G H → Runs hub-engine G H I
     → reportOf (H .stored g) p out .outcome ≡ done
     → reportOf (I .stored h) p more .outcome ≡ done
     → take command-size (reportOf (H .stored g) p out .output) ≡ take command-size (reportOf (I .stored h) p more .output)
@@ -60,15 +60,15 @@ HandedAgree =
 -- Every stored state is legal.
 abbrev pub LegalStates : Type 0
 LegalStates =
-    (G : Group) (H : Home) (h : ℕ) → Reached hub-engine G H → (s : State) × (readState (hubOf G h) (H .stored h) ≡ some s)
+    (G : Group) (H : HomeOfHubs) (h : ℕ) → Reached hub-engine G H → (s : State) × (readState (hubOf G h) (H .stored h) ≡ some s)
 
 -- No hub ever answers 2, not even after a loss of power.
 abbrev pub NeverBadState : Type 0
-NeverBadState = (G : Group) (H : Home) (d : Deed) → Reached hub-engine G H → Fair hub-engine H d → stepOf (callFor G d) .outcome ≡ bad-state → ⊥
+NeverBadState = (G : Group) (H : HomeOfHubs) (d : Deed) → Reached hub-engine G H → Fair hub-engine H d → stepOf (callFor G d) .outcome ≡ bad-state → ⊥
 
 -- Every text that a hub wrote is read as a message.
 abbrev pub LegalMessages : Type 0
-LegalMessages = (G : Group) (H : Home) (t : List ℕ) → Reached hub-engine G H → t ∈ H .sent → (m : Message) × (read t ≡ some m)
+LegalMessages = (G : Group) (H : HomeOfHubs) (t : List ℕ) → Reached hub-engine G H → t ∈ H .sent → (m : Message) × (read t ≡ some m)
 
 -- No text that a hub of the home wrote is answered with 4 or with 7, by any hub, at any moment: those are signs of damage.
 pub record Accepted (G : Group) (d : Deed) : Type 0 where
@@ -77,5 +77,5 @@ pub record Accepted (G : Group) (d : Deed) : Type 0 where
 
 abbrev pub NeverContradicted : Type 0
 NeverContradicted =
-    (G : Group) (H : Home) (d : Deed) → Reached hub-engine G H → Fair hub-engine H d → eventOf (d .event) ≡ some receive-event
+    (G : Group) (H : HomeOfHubs) (d : Deed) → Reached hub-engine G H → Fair hub-engine H d → eventOf (d .event) ≡ some receive-event
     → d .input ∈ H .sent → Accepted G d

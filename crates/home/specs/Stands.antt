@@ -17,7 +17,7 @@ use Rattle.paxos.specs.Paxos.{Seen, never, at, proposed, voted, _∈_}
 use Rattle.views.specs.Hall.{gave, Hall, Leads}
 use Rattle.views.specs.Faithful.{Settled, Faithful}
 use Rattle.views.specs.Best.{Top}
-use Rattle.home.specs.View.{tells, viewOf, counts, tally, machine}
+use Rattle.home.specs.View.{entryCounts, viewOf, pairCounts, tally, machine}
 
 infix 50 _⊑_
 -- What a log has at an index the other has there too: so it is a prefix of it.
@@ -70,7 +70,7 @@ pub record Yields (H : Hall Command) (h t to last b : ℕ) (entries : List Entry
   -- No ballot in it is above b.
   pub low : (p k : ℕ) (c : Command) → seen p ≡ at k c → k ≤ b
   -- After last it tells of the entries, and of nothing beyond them.
-  pub beyond : (i : ℕ) → seen (suc (last + i)) ≡ tells b (getElem? entries i)
+  pub beyond : (i : ℕ) → seen (suc (last + i)) ≡ entryCounts b (getElem? entries i)
 
 -- The log has an entry of the term prevterm at the place prev; nothing is asked of place 0.
 abbrev pub Follows : List Entry → ℕ → ℕ → Type 0
@@ -113,7 +113,7 @@ pub record Standing (H : Hall Command) (h : ℕ) (k : Kept) (voters : List Bool)
   -- Each voter gave it its report at its term.
   pub given : (g : ℕ) → ofHub voters false g ≡ true → gave g (k .term) h (seen g) ∈ H .gifts
   -- What it would propose at a place is the highest vote that they tell of.
-  pub best : (i : ℕ) → Top (ofHub voters false) (λ g. seen g (suc i)) (counts (getElem? (tally k gathered) i))
+  pub best : (i : ℕ) → Top (ofHub voters false) (λ g. seen g (suc i)) (pairCounts (getElem? (tally k gathered) i))
 
 -- A leader.
 pub record Leading (G : Group) (H : Hall Command) (made : Logs) (h : ℕ) (k : Kept) (confirmed : List ℕ) : Type 0 where

@@ -13,14 +13,14 @@ use Rattle.paxos.specs.Paxos.{Machine, Seen, never, at}
 use Rattle.views.specs.Hall.{View, blank}
 
 -- What an entry at the ballot b, or none, counts as.
-abbrev pub tells : ℕ → Option Entry → Seen Command
-tells b none = never
-tells b (some e) = at b (e .command)
+abbrev pub entryCounts : ℕ → Option Entry → Seen Command
+entryCounts b none = never
+entryCounts b (some e) = at b (e .command)
 
 -- What a log at the ballot b holds at each place; places are counted from 1.
 unfoldable pub holdsOf : ℕ → List Entry → ℕ → Seen Command
 holdsOf b log zero = never
-holdsOf b log (suc i) = tells b (getElem? log i)
+holdsOf b log (suc i) = entryCounts b (getElem? log i)
 
 -- The view of the kept parts: places 1..length are held at the ballot, places 1..chosen reported.
 abbrev pub viewOf : Kept → View Command
@@ -35,9 +35,9 @@ abbrev pub machine : Group → Machine Command
 machine G = record { size = G .size; own = λ c. false }
 
 -- What a gathered pair, or none, counts as.
-abbrev pub counts : Option Pair → Seen Command
-counts none = never
-counts (some x) = at (x .ballot) (x .command)
+abbrev pub pairCounts : Option Pair → Seen Command
+pairCounts none = never
+pairCounts (some x) = at (x .ballot) (x .command)
 
 -- What a candidate would propose, place by place: its log's commands at its ballot, then what it gathered.
 unfoldable pub tally : Kept → List Pair → List Pair

@@ -5,9 +5,9 @@ ghost use Rattle.kinds.specs.Sizes.{limit, text-room};
 ghost use Rattle.state.specs.Image.{state-size};
 ghost use Rattle.rules.specs.Step.{stepOf};
 ghost use Rattle.promise.specs.Promise.{Answers, call};
-ghost use Rattle.rules.specs.Report.{Reports, reportOf, chosenOf};
-ghost use Rattle.alone.specs.Told.{Tells, tells};
-ghost use Rattle.alone.specs.Left.{Leaves, writes};
+ghost use Rattle.rules.specs.Report.{IsReport, reportOf, chosenOf};
+ghost use Rattle.alone.specs.Told.{Tells, numbersTold};
+ghost use Rattle.alone.specs.Left.{IsLeft, writes};
 ghost use Rattle.kritnamon.specs.Version.{version};
 use kinds::Hub;
 use promise::Caller;
@@ -44,7 +44,7 @@ pub extern "C" fn kritnamon_write_command(
 // eight numbers lent; 4: not a legal message) leaves all numbers, and its upper half is 0.
 #[no_mangle]
 pub extern "C" fn kritnamon_read_message(text: &[u8], numbers: &mut [u32]) -> u64
-    ensures { λ r. ⌜ Tells (tells (now (text .entry)) (now (numbers .entry))) r (now (numbers .exit)) ⌝ }
+    ensures { λ r. ⌜ Tells (numbersTold (now (text .entry)) (now (numbers .entry))) r (now (numbers .exit)) ⌝ }
 {
     alone::read_numbers(text, numbers)
 }
@@ -55,7 +55,7 @@ pub extern "C" fn kritnamon_read_message(text: &[u8], numbers: &mut [u32]) -> u6
 // each entry, or not a legal message) leaves every byte, and its upper half is 0.
 #[no_mangle]
 pub extern "C" fn kritnamon_write_message(numbers: &[u32], rows: &[u8], out: &mut [u8]) -> u64
-    ensures { λ r. ⌜ Leaves (writes (now (numbers .entry)) (now (rows .entry)) (now (out .entry))) r (now (out .exit)) ⌝ }
+    ensures { λ r. ⌜ IsLeft (writes (now (numbers .entry)) (now (rows .entry)) (now (out .entry))) r (now (out .exit)) ⌝ }
 {
     alone::write_numbers(numbers, rows, out)
 }
@@ -104,7 +104,7 @@ pub extern "C" fn kritnamon_chosen(state: &[u8]) -> u64
 // 12: a place that is not in 1..chosen) leaves every byte.
 #[no_mangle]
 pub extern "C" fn kritnamon_reported(state: &[u8], place: u32, out: &mut [u8]) -> u32
-    ensures { λ r. ⌜ Reports (reportOf (now (state .entry)) place (now (out .entry))) r (now (out .exit)) ⌝ }
+    ensures { λ r. ⌜ IsReport (reportOf (now (state .entry)) place (now (out .entry))) r (now (out .exit)) ⌝ }
 {
     report::reported_at(state, place, out)
 }

@@ -17,7 +17,7 @@ use Rattle.message.specs.Fields.{fields, slot, unset}
 use Rattle.message.specs.Range.{range, linesIn}
 use Rattle.message.specs.Text.{key}
 use Rattle.lines.specs.Found.{allLines, FoundLines}
-use Rattle.fields.specs.Table.{typeIs, fieldIs, fieldsMany, following, fieldAt}
+use Rattle.fields.specs.Table.{typeIs, fieldIs, fieldsMany, fieldAfter, fieldAt}
 use Rattle.fields.proofs.TableLaws.{field-at, field-end}
 use Rattle.ranges.specs.Bounds.{rangeIs}
 use Rattle.ranges.specs.declared.Bounds.{Bounds}
@@ -85,7 +85,7 @@ module _ {s : List ℕ} {at : ℕ} {k : Kind} {ns : List ℕ} {next read : ℕ} 
           }
 
       -- The next line was read.
-      pub reading-again : {v n j : ℕ} {g : Field} → x ≡ Is v n → j ≡ slot (fieldIs f) → g ≡ following k f → Reading s at k (set ns j v) n (read + 1) g
+      pub reading-again : {v n j : ℕ} {g : Field} → x ≡ Is v n → j ≡ slot (fieldIs f) → g ≡ fieldAfter k f → Reading s at k (set ns j v) n (read + 1) g
       unfolding fieldAt
       reading-again {v} {n} e there next-is =
           let held = number-is s _ x found v n e in

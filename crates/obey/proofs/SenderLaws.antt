@@ -13,18 +13,18 @@ use Rattle.rules.proofs.Fair.{IsPeer}
 use Rattle.rules.proofs.ReceiveLaws.{sender}
 use Rattle.promise.proofs.PromiseLaws.{ready-legal, ready-who}
 use Rattle.say.specs.Said.{Answering}
-use Rattle.refuse.specs.Received.{messageIn}
+use Rattle.refuse.specs.Received.{messageHeard}
 use Rattle.obey.specs.Obeyed.{Receives}
 
 module _ (w : Who) (l : List ℕ) (f : Fields) (s out : List ℕ) (g : Receives w l f s out) where
   -- A received message is legal, part by part.
-  pub message-legal : IsMessage (messageIn f s)
-  message-legal = legalMessage-is (messageIn f s) (g .legal)
+  pub message-legal : IsMessage (messageHeard f s)
+  message-legal = legalMessage-is (messageHeard f s) (g .legal)
 
-  module _ (a : isMisaddressed w (messageIn f s) ≡ false) where
+  module _ (a : isMisaddressed w (messageHeard f s) ≡ false) where
     -- One that is for this hub comes from another hub of the group.
     pub peer : IsPeer w (f .from .0)
-    peer = sender w (ready-who w l (g .ready)) (stateIn l) (ready-legal w l (g .ready)) (messageIn f s) message-legal a
+    peer = sender w (ready-who w l (g .ready)) (stateIn l) (ready-legal w l (g .ready)) (messageHeard f s) message-legal a
 
     -- Its sender may be answered, at a term that is not 0.
     pub may-answer : 1 ≤ stateIn l .kept .term → Answering w l (f .from .0) out

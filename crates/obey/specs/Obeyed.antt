@@ -13,7 +13,7 @@ use Rattle.state.specs.Image.{stateIn}
 use Rattle.rules.specs.Receive.{Effect, idle, effect, isMisaddressed, contradicts}
 use Rattle.rules.specs.Step.{over, written}
 use Rattle.promise.specs.Promise.{Ready, ruledBy, saidBy}
-use Rattle.refuse.specs.Received.{bodyIn, messageIn}
+use Rattle.refuse.specs.Received.{bodyIn, messageHeard}
 use Rattle.obey.specs.declared.Did.{Did}
 use Rattle.obey.specs.declared.Did.the-variants.{Nothing, Wrote}
 
@@ -24,12 +24,12 @@ pub record Receives (w : Who) (l : List ℕ) (f : Fields) (s out : List ℕ) : T
   pub ready : Ready w l
   pub room : text-room ≤ length out
   pub lie : Lie (manyIn (f .body)) s
-  pub legal : legalMessage (messageIn f s) ≡ true
+  pub legal : legalMessage (messageHeard f s) ≡ true
 
 -- It is for this hub, has the hub's term and does not contradict.
 pub record Obeys (w : Who) (l : List ℕ) (f : Fields) (s out : List ℕ) : Type 0 where
   pub receives : Receives w l f s out
-  pub addressed : isMisaddressed w (messageIn f s) ≡ false
+  pub addressed : isMisaddressed w (messageHeard f s) ≡ false
   pub own-term : f .term .0 ≡ stateIn l .kept .term
   pub agrees : contradicts (stateIn l) (bodyIn (f .body) s) ≡ false
 

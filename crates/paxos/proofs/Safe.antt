@@ -8,7 +8,7 @@ use mathlib.Core.Bool.{Bool, true}
 use Prim.Native.Nat.{ℕ, _≤_, _<_}
 use native.Mathlib.Omega.{arith}
 use native.Mathlib.Nat.{eq-or-lt-of-le}
-use Rattle.paxos.specs.Paxos.{Machine, Seen, never, at, reported, proposed, voted, History, _∈_, here, there, _⊆_, promise, Highest, Pick, highest, any, report, propose, vote, next, Run, ChosenAt}
+use Rattle.paxos.specs.Paxos.{Machine, Seen, never, at, reported, proposed, voted, History, _∈_, here, there, _⊆_, promise, Highest, Pick, highest, any, can-report, can-propose, can-vote, then-step, Run, ChosenAt}
 use Rattle.paxos.proofs.QuorumLaws.{Shared, share}
 use Rattle.paxos.proofs.Steps.{steps-one, promise-rises}
 
@@ -27,36 +27,36 @@ covers-now (at b c) f v = record { ballot = b; command = c; is = refl; up = f .1
 module _ {C : Type 0} {M : Machine C} where
   -- What is voted for was proposed.
   pub voted-proposed : {s : History C} {h b p : ℕ} {c : C} → Run M s → voted h b p c ∈ s → proposed b p c ∈ s
-  voted-proposed (next r (vote is m le)) here = there m
-  voted-proposed (next r k) (there m) = there (voted-proposed r m)
+  voted-proposed (then-step r (can-vote is m le)) here = there m
+  voted-proposed (then-step r k) (there m) = there (voted-proposed r m)
 
   -- Whoever reported at a ballot has promised it, or more by now.
   pub reported-promised : {s : History C} {h b : ℕ} {seen : ℕ → Seen C} → Run M s → reported h b seen ∈ s → b ≤ promise s h
   unfolding promise
-  reported-promised (next r (report is e f)) here = omega arith
-  reported-promised {h} (next r k) (there m) = omega (arith, reported-promised r m, promise-rises (steps-one k) h)
+  reported-promised (then-step r (can-report is e f)) here = omega arith
+  reported-promised {h} (then-step r k) (there m) = omega (arith, reported-promised r m, promise-rises (steps-one k) h)
 
   -- At most one command is proposed per ballot and place.
   pub unique : {s : History C} {b p : ℕ} {c d : C} → Run M s → proposed b p c ∈ s → proposed b p d ∈ s → c ≡ d
-  unique (next r (propose Q seen m rs k u)) here here = refl
-  unique (next r (propose Q seen m rs k u)) here (there y) = absurd (u _ y)
-  unique (next r (propose Q seen m rs k u)) (there x) here = absurd (u _ x)
-  unique (next r k) (there x) (there y) = unique r x y
+  unique (then-step r (can-propose Q seen m rs k u)) here here = refl
+  unique (then-step r (can-propose Q seen m rs k u)) here (there y) = absurd (u _ y)
+  unique (then-step r (can-propose Q seen m rs k u)) (there x) here = absurd (u _ x)
+  unique (then-step r k) (there x) (there y) = unique r x y
 
   -- A report covers every lower vote of its hub, also those to come: the promise bars them.
   covers :
       {s : History C} {h b p l : ℕ} {seen : ℕ → Seen C} {d : C}
       → Run M s → reported h b seen ∈ s → voted h l p d ∈ s → l < b → Covers (seen p) l
-  covers {p} {seen} (next r (report is e f)) here (there v) lt = covers-now (seen p) (f p) v
-  covers (next r (vote is pr le)) (there m) here lt = absurd (omega (arith, reported-promised r m))
-  covers (next r k) (there m) (there v) lt = covers r m v lt
+  covers {p} {seen} (then-step r (can-report is e f)) here (there v) lt = covers-now (seen p) (f p) v
+  covers (then-step r (can-vote is pr le)) (there m) here lt = absurd (omega (arith, reported-promised r m))
+  covers (then-step r k) (there m) (there v) lt = covers r m v lt
 
   -- The vote that a report tells of was cast.
   pub told :
       {s : History C} {h b p k : ℕ} {seen : ℕ → Seen C} {c : C}
       → Run M s → reported h b seen ∈ s → seen p ≡ at k c → voted h k p c ∈ s
-  told {p} (next r (report is e f)) here q = there ((rw q at (f p)) .0)
-  told (next r k) (there m) q = there (told r m q)
+  told {p} (then-step r (can-report is e f)) here q = there ((rw q at (f p)) .0)
+  told (then-step r k) (there m) q = there (told r m q)
 
 -- The command `d` is chosen at the place `p` of the history `t`, at the ballot `l`.
 module _ {C : Type 0} (M : Machine C) (t : History C) (final : Run M t) (l p : ℕ) (d : C) (x : ChosenAt M t l p d) where
@@ -75,8 +75,8 @@ module _ {C : Type 0} (M : Machine C) (t : History C) (final : Run M t) (l p : �
 
   -- Each proposal at `l` or above, in the run so far, is of `d`.
   pub held-by : {s : History C} {b : ℕ} {c : C} → Run M s → s ⊆ t → proposed b p c ∈ s → l ≤ b → c ≡ d
-  held-by (next r k) sub (there m) le = held-by r (λ e y. sub e (there y)) m le
-  held-by (next r (propose Q seen most rs pick free)) sub here le =
+  held-by (then-step r k) sub (there m) le = held-by r (λ e y. sub e (there y)) m le
+  held-by (then-step r (can-propose Q seen most rs pick free)) sub here le =
       ⊎-elim
       (λ e. unique final (sub _ here) (rw e at (x .proposal)))
       (λ lt.

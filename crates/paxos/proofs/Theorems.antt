@@ -9,7 +9,7 @@ use Prim.Native.Nat.{ℕ, _≤_}
 use native.Mathlib.Omega.{arith}
 use native.Mathlib.Decide.{decLe}
 use Rattle.paxos.specs.Quorum.{Majority}
-use Rattle.paxos.specs.Paxos.{Machine, Wanted, client's, machine's, proposed, voted, History, _∈_, here, there, _⊆_, highest, any, propose, Steps, next, Run, ChosenAt, Chosen}
+use Rattle.paxos.specs.Paxos.{Machine, Wanted, client's, machine's, proposed, voted, History, _∈_, here, there, _⊆_, highest, any, can-propose, Steps, then-step, Run, ChosenAt, Chosen}
 pub use Rattle.paxos.proofs.QuorumLaws.{Shared, share}
 pub use Rattle.paxos.proofs.Safe.{unique}
 use Rattle.paxos.proofs.Steps.{steps-trans, steps-keep}
@@ -44,9 +44,9 @@ module _ {C : Type 0} {M : Machine C} where
 
   -- What is proposed some client asked for, or it is the machine's own.
   pub proposed-wanted : {s : History C} {b p : ℕ} {c : C} → Run M s → proposed b p c ∈ s → Wanted M s c
-  proposed-wanted (next r k) (there m) = wanted-on (λ e x. there x) (proposed-wanted r m)
-  proposed-wanted (next r (propose Q seen most rs (any none a) free)) here = wanted-on (λ e x. there x) a
-  proposed-wanted (next r (propose Q seen most rs (highest h k q e hi) free)) here =
+  proposed-wanted (then-step r k) (there m) = wanted-on (λ e x. there x) (proposed-wanted r m)
+  proposed-wanted (then-step r (can-propose Q seen most rs (any none a) free)) here = wanted-on (λ e x. there x) a
+  proposed-wanted (then-step r (can-propose Q seen most rs (highest h k q e hi) free)) here =
       wanted-on (λ e x. there x) (proposed-wanted r (voted-proposed r (told r (rs h q) e)))
 
   -- What is chosen some client asked for, or it is the machine's own.

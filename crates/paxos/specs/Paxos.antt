@@ -26,16 +26,16 @@ pub data Seen (C : Type 0) : Type 0 where
   at : (b : ℕ) (c : C) → Seen C
 
 -- What happens.
-pub data Event (C : Type 0) : Type 0 where
-  asked : (c : C) → Event C  -- a client asks for the command c
-  raised : (h b : ℕ) → Event C  -- hub h promises the ballot b
-  reported : (h b : ℕ) (seen : ℕ → Seen C) → Event C  -- hub h reports at the ballot b, place by place
-  proposed : (b p : ℕ) (c : C) → Event C  -- c is proposed at the ballot b for the place p
-  voted : (h b p : ℕ) (c : C) → Event C  -- hub h votes at the ballot b for c at the place p
+pub data Happening (C : Type 0) : Type 0 where
+  asked : (c : C) → Happening C  -- a client asks for the command c
+  raised : (h b : ℕ) → Happening C  -- hub h promises the ballot b
+  reported : (h b : ℕ) (seen : ℕ → Seen C) → Happening C  -- hub h reports at the ballot b, place by place
+  proposed : (b p : ℕ) (c : C) → Happening C  -- c is proposed at the ballot b for the place p
+  voted : (h b p : ℕ) (c : C) → Happening C  -- hub h votes at the ballot b for c at the place p
 
 -- What has happened, newest first.
 abbrev pub History : Type 0 → Type 0
-History C = List (Event C)
+History C = List (Happening C)
 
 infix 50 _∈_ _⊆_
 -- `a` stands in the list.
@@ -83,15 +83,15 @@ pub data Pick {C : Type 0} (M : Machine C) (s : History C) (Q : ℕ → Bool) (s
 -- ---- the steps
 
 -- What may happen next.
-pub data Can {C : Type 0} (M : Machine C) (s : History C) : Event C → Type 0 where
+pub data Can {C : Type 0} (M : Machine C) (s : History C) : Happening C → Type 0 where
   -- A client asks for a command, at any time.
-  ask : {c : C} → Can M s (asked c)
+  can-ask : {c : C} → Can M s (asked c)
   -- A hub raises its promise.
-  raise : {h b : ℕ} → IsHub (M .size) h → promise s h < b → Can M s (raised h b)
+  can-raise : {h b : ℕ} → IsHub (M .size) h → promise s h < b → Can M s (raised h b)
   -- A hub reports, at the ballot that it has promised, its highest vote per place.
-  report : {h b : ℕ} {seen : ℕ → Seen C} → IsHub (M .size) h → promise s h ≡ b → ((p : ℕ) → Highest s h p (seen p)) → Can M s (reported h b seen)
+  can-report : {h b : ℕ} {seen : ℕ → Seen C} → IsHub (M .size) h → promise s h ≡ b → ((p : ℕ) → Highest s h p (seen p)) → Can M s (reported h b seen)
   -- Once a majority reported at the ballot, a command is proposed there that the reports allow, one for each place at most.
-  propose :
+  can-propose :
       {b p : ℕ} {c : C} (Q : ℕ → Bool) (seen : ℕ → ℕ → Seen C)
       → Majority (M .size) Q
       → ((h : ℕ) → Q h ≡ true → reported h b (seen h) ∈ s)
@@ -99,12 +99,12 @@ pub data Can {C : Type 0} (M : Machine C) (s : History C) : Event C → Type 0 w
       → Free s b p
       → Can M s (proposed b p c)
   -- A hub votes for a proposal if its promise is not above it.
-  vote : {h b p : ℕ} {c : C} → IsHub (M .size) h → proposed b p c ∈ s → promise s h ≤ b → Can M s (voted h b p c)
+  can-vote : {h b p : ℕ} {c : C} → IsHub (M .size) h → proposed b p c ∈ s → promise s h ≤ b → Can M s (voted h b p c)
 
 -- Zero or more steps from one history to another.
 pub data Steps {C : Type 0} (M : Machine C) (s : History C) : History C → Type 0 where
-  done : Steps M s s
-  next : {t : History C} {e : Event C} → Steps M s t → Can M t e → Steps M s (e ∷ t)
+  no-step : Steps M s s
+  then-step : {t : History C} {e : Happening C} → Steps M s t → Can M t e → Steps M s (e ∷ t)
 
 -- A history that the machine can come to, from nothing.
 abbrev pub Run : {C : Type 0} → Machine C → History C → Type 0

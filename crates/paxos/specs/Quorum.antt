@@ -15,10 +15,10 @@ bit true = 1
 bit false = 0
 
 -- How many of the hubs 1..n are in the set `Q`.
-unfoldable pub count : ℕ → (ℕ → Bool) → ℕ
-count zero Q = 0
-count (suc n) Q = bit (Q (suc n)) + count n Q
+unfoldable pub countTo : ℕ → (ℕ → Bool) → ℕ
+countTo zero Q = 0
+countTo (suc n) Q = bit (Q (suc n)) + countTo n Q
 
 -- The set `Q` is a majority of the hubs 1..N.
 abbrev pub Majority : ℕ → (ℕ → Bool) → Type 0
-Majority N Q = majority N ≤ count N Q
+Majority N Q = majority N ≤ countTo N Q

@@ -22,7 +22,7 @@ use Rattle.rows.proofs.RowLaws.{rowsIn-length}
 use Rattle.state.proofs.ImageLaws.{readKept-sound}
 use Rattle.rules.specs.Outcome.{goes}
 use Rattle.rules.specs.Events.{isLeader, started, asks, start, withTerm}
-use Rattle.rules.specs.Receive.{raised}
+use Rattle.rules.specs.Receive.{followerAt}
 use Rattle.rules.proofs.EventsLaws.{withTerm-kept}
 use Rattle.promise.specs.Promise.{Ready}
 use Rattle.promise.proofs.PromiseLaws.{ready-legal, ready-held, ready-role, ready-term, ready-length, ready-gathered}
@@ -76,8 +76,8 @@ module _ (w : Who) (l : List ℕ) (r : Ready w l) where
 
   module _ (t : ℕ) (up : headIn l .term .0 ≤ t) (last : t ≤ term-most) where
     -- The follower of this term or of a higher one is legal.
-    pub raised-legal : legalState w (raised (stateIn l) t) ≡ true
-    unfolding raised
+    pub raised-legal : legalState w (followerAt (stateIn l) t) ≡ true
+    unfolding followerAt
     raised-legal =
         let k = stateIn l .kept in
         follower-legal w (withTerm k t) (withTerm-kept k t kept-is (omega (arith, ready-term w l r)) last)

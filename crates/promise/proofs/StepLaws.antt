@@ -18,7 +18,7 @@ use Rattle.state.specs.Check.{isSome}
 use Rattle.kinds.proofs.BoolLaws.{and-first, and-second}
 use Rattle.rules.specs.Outcome.{done, not-known, bad-state, short-output}
 use Rattle.rules.specs.Events.{start, propose, send, restart}
-use Rattle.rules.specs.Step.{Call, Event, start-event, propose-event, send-event, restart-event, receive-event, eventOf, refusal, receiving, acting, keptAlone, seen, atState, atEvent, stepOf}
+use Rattle.rules.specs.Step.{Call, Event, start-event, propose-event, send-event, restart-event, receive-event, eventOf, refusal, receiving, acting, keptAlone, seenBy, atState, atEvent, stepOf}
 use Rattle.promise.specs.Promise.{Answers, Ready, Gives, Quiet}
 use Rattle.promise.specs.Gate.{isKnown, isFit, gate}
 use Rattle.promise.proofs.GateLaws.{none-when, readState-some, readKept-some, fit-restart, fit-other}
@@ -30,7 +30,7 @@ use Rattle.promise.proofs.PromiseLaws.{done-quiet, gives-answers, quiet
 record Listed (w : Who) (l : List ℕ) (n : ℕ) : Type 0 where
   event : Event
   is : eventOf n ≡ some event
-  fit : isFit w n l ≡ isSome (seen w event l)
+  fit : isFit w n l ≡ isSome (seenBy w event l)
 
 alone : (o : Option Kept) → isSome o ≡ isSome (keptAlone o)
 unfolding isSome keptAlone
@@ -42,7 +42,7 @@ unfolding between
 out-of n h e = absurd (omega (arith, leb-true n 5 (and-second (leb 1 n) (leb n 5) e)))
 
 listed : (w : Who) (l : List ℕ) (n : ℕ) → between 1 5 n ≡ true → Listed w l n
-unfolding eventOf isFit seen between
+unfolding eventOf isFit seenBy between
 listed w l zero h = absurd (let z : _≡_ {A = ℕ} 0 1 = cc in omega arith)
 listed w l (suc zero) h = record { event = start-event; is = refl; fit = refl }
 listed w l (suc (suc zero)) h = record { event = propose-event; is = refl; fit = refl }
@@ -93,7 +93,7 @@ module _ (c : Call) where
       (and-first size (hub && event) h, and-first hub event rest, and-second hub event rest)
 
   -- Behind the first test: what the event needs to see.
-  stepped : (h : isKnown (c .who) (c .event) ≡ true) → (let e = listed (c .who) (c .state) (c .event) (known-parts h .2) in stepOf c ≡ atState c (e .event) (seen (c .who) (e .event) (c .state)))
+  stepped : (h : isKnown (c .who) (c .event) ≡ true) → (let e = listed (c .who) (c .state) (c .event) (known-parts h .2) in stepOf c ≡ atState c (e .event) (seenBy (c .who) (e .event) (c .state)))
   unfolding stepOf atEvent
   stepped h =
       let p = known-parts h in
@@ -131,7 +131,7 @@ module _ (c : Call) where
   step-refused k e h = known (isKnown (c .who) (c .event)) refl
     where
       room : (b : Bool) (o : Option State) → isSome o ≡ true → ltb (length (c .output)) text-room ≡ b → (a : isKnown (c .who) (c .event) ≡ true) → isFit (c .who) (c .event) (c .state) ≡ true
-          → (let e = listed (c .who) (c .state) (c .event) (known-parts a .2) in seen (c .who) (e .event) (c .state) ≡ o) → Answers (stepOf c) k (c .state) (c .output)
+          → (let e = listed (c .who) (c .state) (c .event) (known-parts a .2) in seenBy (c .who) (e .event) (c .state) ≡ o) → Answers (stepOf c) k (c .state) (c .output)
       room b none f d a fit is = absurd (let z : _≡_ {A = ℕ} 0 1 = cc in omega arith)
       room true (some s) f d a fit is = refusal-answers k (stepped a ∙ rw (is, d, e, a, fit, d))
       room false (some s) f d a fit is = absurd (h (e ∙ rw (a, fit, d)))
@@ -139,10 +139,10 @@ module _ (c : Call) where
       fit : (b : Bool) → isFit (c .who) (c .event) (c .state) ≡ b → isKnown (c .who) (c .event) ≡ true → Answers (stepOf c) k (c .state) (c .output)
       fit false b a =
           let l = listed (c .who) (c .state) (c .event) (known-parts a .2) in
-          refusal-answers k (stepped a ∙ rw (none-when (seen (c .who) (l .event) (c .state)) (sym (l .fit) ∙ b), e, a, b))
+          refusal-answers k (stepped a ∙ rw (none-when (seenBy (c .who) (l .event) (c .state)) (sym (l .fit) ∙ b), e, a, b))
       fit true b a =
           let l = listed (c .who) (c .state) (c .event) (known-parts a .2) in
-          room (ltb (length (c .output)) text-room) (seen (c .who) (l .event) (c .state)) (sym (l .fit) ∙ b) refl a b refl
+          room (ltb (length (c .output)) text-room) (seenBy (c .who) (l .event) (c .state)) (sym (l .fit) ∙ b) refl a b refl
 
       known : (b : Bool) → isKnown (c .who) (c .event) ≡ b → Answers (stepOf c) k (c .state) (c .output)
       known false a = refusal-answers k (unknown-step a ∙ rw (e, a))
@@ -176,43 +176,43 @@ module _ (c : Call) where
         last (c .event) (between-true 1 5 (c .event) (open-parts .2)) first second third fourth
 
     -- The event that has this number, at the state that it sees.
-    acts : (e : Event) (s : State) → eventOf (c .event) ≡ some e → seen (c .who) e (c .state) ≡ some s → stepOf c ≡ acting c e s
+    acts : (e : Event) (s : State) → eventOf (c .event) ≡ some e → seenBy (c .who) e (c .state) ≡ some s → stepOf c ≡ acting c e s
     unfolding stepOf atEvent atState
     acts e s event sees = rw (event, open-parts .0, open-parts .1, sees, gate-passed h .2)
 
     -- Start.
     pub step-start : c .event ≡ 1 → {r : ℕ} {l out : List ℕ} → Gives (start (c .who) (stateIn (c .state))) (c .state) (c .output) r l out → Answers (stepOf c) r l out
-    unfolding eventOf seen acting
+    unfolding eventOf seenBy acting
     step-start e g =
         let ready = step-ready (λ f. omega arith) in
         rw (acts start-event (stateIn (c .state)) (rw e) (ready .held)) (gives-answers c (start (c .who) (stateIn (c .state))) g)
 
     -- Propose.
     pub step-propose : c .event ≡ 2 → {r : ℕ} {l : List ℕ} → Quiet (propose (c .who) (stateIn (c .state)) (readProposal (c .input))) (c .state) r l → Answers (stepOf c) r l (c .output)
-    unfolding eventOf seen acting
+    unfolding eventOf seenBy acting
     step-propose e q =
         let ready = step-ready (λ f. omega arith) in
         rw (acts propose-event (stateIn (c .state)) (rw e) (ready .held)) (quiet-answers c (propose (c .who) (stateIn (c .state)) (readProposal (c .input))) q)
 
     -- Send.
     pub step-send : c .event ≡ 3 → {r : ℕ} {l out : List ℕ} → Gives (send (c .who) (stateIn (c .state)) (c .a) (c .b)) (c .state) (c .output) r l out → Answers (stepOf c) r l out
-    unfolding eventOf seen acting
+    unfolding eventOf seenBy acting
     step-send e g =
         let ready = step-ready (λ f. omega arith) in
         rw (acts send-event (stateIn (c .state)) (rw e) (ready .held)) (gives-answers c (send (c .who) (stateIn (c .state)) (c .a) (c .b)) g)
 
     -- Restart.
     pub step-restart : c .event ≡ 4 → {l : List ℕ} → l ≡ image (restart (keptIn (c .state)) .state) → Answers (stepOf c) done l (c .output)
-    unfolding eventOf seen keptAlone acting restart
+    unfolding eventOf seenBy keptAlone acting restart
     step-restart e left =
         let k = keptIn (c .state) in
         let s = restart k .state in
-        let sees : seen (c .who) restart-event (c .state) ≡ some s = rw (readKept-some (c .state) (step-kept e)) in
+        let sees : seenBy (c .who) restart-event (c .state) ≡ some s = rw (readKept-some (c .state) (step-kept e)) in
         rw (acts restart-event s (rw e) sees) (quiet-answers c (restart k) (done-quiet s (c .state) _ refl left))
 
     -- Receive.
     pub step-receive : c .event ≡ 5 → stepOf c ≡ receiving c (stateIn (c .state)) (read (c .input))
-    unfolding eventOf seen acting
+    unfolding eventOf seenBy acting
     step-receive e =
         let ready = step-ready (λ f. omega arith) in
         acts receive-event (stateIn (c .state)) (rw e) (ready .held)

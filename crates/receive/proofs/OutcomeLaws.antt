@@ -21,13 +21,13 @@ use Rattle.rules.specs.Outcome.{done, bad-message, not-addressed, stale}
 use Rattle.rules.specs.Receive.{isMisaddressed, isStale, staleReply, receive}
 use Rattle.rules.specs.Step.{Call, over, written, refusal, receiving, stepOf}
 use Rattle.rules.proofs.ReceiveLaws.{stale-term, receive-fair}
-use Rattle.rules.specs.Theorems.{Says}
+use Rattle.rules.specs.Theorems.{SaysLegal}
 use Rattle.promise.specs.Promise.{Answers, leftBy, Gives}
 use Rattle.promise.proofs.PromiseLaws.{ready-legal, ready-who, gives-answers}
 use Rattle.promise.specs.Gate.{gate}
 use Rattle.promise.proofs.StepLaws.{step-receive}
 use Rattle.say.specs.Said.{Answering}
-use Rattle.refuse.specs.Received.{bodyIn, messageIn}
+use Rattle.refuse.specs.Received.{bodyIn, messageHeard}
 use Rattle.obey.specs.Obeyed.{Receives}
 use Rattle.obey.proofs.SenderLaws.{message-legal, may-answer}
 use Rattle.fresh.specs.declared.Told.{Told}
@@ -39,22 +39,22 @@ use Rattle.receive.specs.Heard.{heard, Replied}
 
 module _ (w : Who) (l : List ℕ) (f : Fields) (s out : List ℕ) (g : Receives w l f s out) where
   -- Outcome 5.
-  pub misaddressed-comes : isMisaddressed w (messageIn f s) ≡ true → Comes (receive w (stateIn l) (messageIn f s)) l out (told not-addressed 0) l out
+  pub misaddressed-comes : isMisaddressed w (messageHeard f s) ≡ true → Comes (receive w (stateIn l) (messageHeard f s)) l out (told not-addressed 0) l out
   unfolding receive
   misaddressed-comes a = refused-comes (stateIn l) l out not-addressed (rw a) (λ e. omega arith)
 
-  module _ (a : isMisaddressed w (messageIn f s) ≡ false) (b : isStale (stateIn l) (messageIn f s) ≡ true) where
+  module _ (a : isMisaddressed w (messageHeard f s) ≡ false) (b : isStale (stateIn l) (messageHeard f s) ≡ true) where
     -- The sender of a stale message may be answered.
     pub may-reply : Answering w l (f .from .0) out
     may-reply =
         let legal = message-legal w l f s out g in
         may-answer w l f s out g a
-        (omega (arith, legal .term, stale-term w (ready-who w l (g .ready)) (stateIn l) (ready-legal w l (g .ready)) (messageIn f s) legal b))
+        (omega (arith, legal .term, stale-term w (ready-who w l (g .ready)) (stateIn l) (ready-legal w l (g .ready)) (messageHeard f s) legal b))
 
     -- Outcome 6, with its reply.
     pub stale-comes :
         {r : ℕ} {out′ : List ℕ} → Replied (staleReply w (stateIn l) (f .from .0) (bodyIn (f .body) s)) out r out′
-        → Comes (receive w (stateIn l) (messageIn f s)) l out (told stale r) l out′
+        → Comes (receive w (stateIn l) (messageHeard f s)) l out (told stale r) l out′
     unfolding receive leftBy
     stale-comes reply = rw (a, b) (record { outcome = refl; bytes = reply .returned; state-left = refl; output-left = reply .output-left })
 
@@ -66,23 +66,23 @@ unfolding heard leftBy written over
 unread-gives w l input out e = rw e (record { returned = sym (packed-alone bad-message); state-left = refl; output-left = refl })
 
 -- A message that a hub writes fits an output.
-written-small : (w : Who) (next : State) (m : Option Message) → ((x : Message) → m ≡ some x → Says w next x) → length (written m) ≤ text-room
+written-small : (w : Who) (next : State) (m : Option Message) → ((x : Message) → m ≡ some x → SaysLegal w next x) → length (written m) ≤ text-room
 unfolding written
 written-small w next none says = omega arith
 written-small w next (some x) says = text-most x (says x refl .legal)
 
 module _ (w : Who) (l : List ℕ) (f : Fields) (lines out : List ℕ) (g : Receives w l f lines out) where
-  module _ {r : Told} {l′ out′ : List ℕ} (c : Comes (receive w (stateIn l) (messageIn f lines)) l out r l′ out′) where
+  module _ {r : Told} {l′ out′ : List ℕ} (c : Comes (receive w (stateIn l) (messageHeard f lines)) l out r l′ out′) where
     -- What is written is counted in half of what is returned.
     pub bytes-small : r .bytes < half
     bytes-small =
-        let m = messageIn f lines in
+        let m = messageHeard f lines in
         let fair = receive-fair w (ready-who w l (g .ready)) (stateIn l) (ready-legal w l (g .ready)) m (message-legal w l f lines out g) in
         omega (arith, c .bytes, room-small, written-small w (receive w (stateIn l) m .state) (receive w (stateIn l) m .message) (fair .sound .writes))
 
     -- It is what a text of the message comes to.
     pub read-gives :
-        (input : List ℕ) {n : ℕ} → read input ≡ some (messageIn f lines) → n ≡ packed (r .outcome) (r .bytes)
+        (input : List ℕ) {n : ℕ} → read input ≡ some (messageHeard f lines) → n ≡ packed (r .outcome) (r .bytes)
         → Gives (heard w (stateIn l) (read input)) l out n l′ out′
     unfolding heard
     read-gives input is n= =

@@ -21,13 +21,13 @@ use Rattle.reader.specs.Part.{IsRest}
 use Rattle.reader.specs.declared.Read.the-variants.{Message as Read·Message, Refused}
 use Rattle.reader.proofs.AnswerLaws.{part-within}
 use Rattle.reader.proofs.PartLaws.{rest-bytes}
-use Rattle.refuse.specs.Received.{messageIn}
+use Rattle.refuse.specs.Received.{messageHeard}
 
 -- A text whose fields and entry lines were found: they stand for its message, which is legal.
 pub record Stands (input : List ℕ) (f : Fields) (lines : List ℕ) : Type 0 where
-  pub read-is : read input ≡ some (messageIn f lines)
+  pub read-is : read input ≡ some (messageHeard f lines)
   pub lie : Lie (manyIn (f .body)) lines
-  pub legal : legalMessage (messageIn f lines) ≡ true
+  pub legal : legalMessage (messageHeard f lines) ≡ true
 
 -- The message of a text: the code's fields of it, and the lines of its entries.
 message-stands : (input : List ℕ) (m : Message) → read input ≡ some m → Stands input (fieldsOf m) (drop (partFrom input (some m)) input)
@@ -36,7 +36,7 @@ message-stands input m h =
     let lines = drop (partFrom input (some m)) input in
     let follow = part-follow input m h in
     let many = manyIn-entries (m .body) in
-    let back : messageIn (fieldsOf m) lines ≡ m =
+    let back : messageHeard (fieldsOf m) lines ≡ m =
     ap (λ (n : ℕ). messageBy (fieldsOf m) (entriesFrom n lines)) many ∙ ap (messageBy (fieldsOf m)) (follow .entries-are) ∙ message-back m in
     record {
       read-is = h ∙ ap some (sym back);

@@ -9,7 +9,7 @@ ghost use Rattle.state.specs.Image.{stateIn};
 ghost use Rattle.rules.specs.Receive.{staleReply, receive};
 ghost use Rattle.promise.specs.Promise.{whoIn, Ready, Gives};
 ghost use Rattle.say.specs.Said.{Answering};
-ghost use Rattle.refuse.specs.Received.{bodyIn, messageIn};
+ghost use Rattle.refuse.specs.Received.{bodyIn, messageHeard};
 ghost use Rattle.obey.specs.Obeyed.{Receives};
 ghost use Rattle.fresh.specs.Comes.{Comes};
 ghost use Rattle.receive.specs.Heard.{heard, Replied};
@@ -51,7 +51,7 @@ fn reply_stale(g: Caller, state: &[u8], f: Fields, out: &mut [u8]) -> usize
 // A legal message with its entry lines.
 fn receive_message(g: Caller, state: &mut [u8], f: Fields, lines: &[u8], out: &mut [u8]) -> Told
     requires { ⌜ Receives (whoIn g) (now state) f (now lines) (now out) ⌝ }
-    ensures { λ r. ⌜ Comes (receive (whoIn g) (stateIn (now (state .entry))) (messageIn f (now (lines .entry)))) (now (state .entry)) (now (out .entry)) r (now (state .exit)) (now (out .exit)) ⌝ }
+    ensures { λ r. ⌜ Comes (receive (whoIn g) (stateIn (now (state .entry))) (messageHeard f (now (lines .entry)))) (now (state .entry)) (now (out .entry)) r (now (state .exit)) (now (out .exit)) ⌝ }
 {
     if refuse::is_misaddressed(g, f) {
         return Told {

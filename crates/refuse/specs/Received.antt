@@ -12,5 +12,5 @@ abbrev pub bodyIn : Body → List ℕ → Said
 bodyIn b s = saidWith b (entriesFrom (manyIn b) s)
 
 -- The message of fields whose entry lines stand in s.
-abbrev pub messageIn : Fields → List ℕ → Message
-messageIn f s = messageBy f (entriesFrom (manyIn (f .body)) s)
+abbrev pub messageHeard : Fields → List ℕ → Message
+messageHeard f s = messageBy f (entriesFrom (manyIn (f .body)) s)

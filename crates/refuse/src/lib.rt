@@ -6,7 +6,7 @@ ghost use Rattle.state.specs.State.{State};
 ghost use Rattle.state.specs.Head.{headOf};
 ghost use Rattle.rules.specs.Receive.{isMisaddressed, isRequest, isStale, contradicts};
 ghost use Rattle.promise.specs.Promise.{whoIn};
-ghost use Rattle.refuse.specs.Received.{bodyIn, messageIn};
+ghost use Rattle.refuse.specs.Received.{bodyIn, messageHeard};
 use message::Body;
 use message::Fields;
 use promise::Caller;
@@ -14,7 +14,7 @@ use state::Head;
 
 // From above N or own; to neither own nor 0.
 pub fn is_misaddressed(g: Caller, f: Fields) -> bool
-    ensures { λ r. ⌜ ((s : List ℕ) → r ≡ isMisaddressed (whoIn g) (messageIn f s)) ⌝ }
+    ensures { λ r. ⌜ ((s : List ℕ) → r ≡ isMisaddressed (whoIn g) (messageHeard f s)) ⌝ }
 {
     let from = f.from;
     let to = f.to;
@@ -46,7 +46,7 @@ fn is_request(body: Body) -> bool
 
 // Term below own, or vote-request at own term.
 pub fn is_stale(h: Head, f: Fields) -> bool
-    ensures { λ r. ⌜ ((s : State) (t : List ℕ) → h ≡ headOf (s .kept) (s .lost) → r ≡ isStale s (messageIn f t)) ⌝ }
+    ensures { λ r. ⌜ ((s : State) (t : List ℕ) → h ≡ headOf (s .kept) (s .lost) → r ≡ isStale s (messageHeard f t)) ⌝ }
 {
     let own = h.term;
     let term = f.term;

@@ -31,7 +31,7 @@ use Rattle.promise.specs.Heads.{taking}
 use Rattle.promise.proofs.PromiseLaws.{ready-image, ready-legal, ready-size, ready-head, ready-who, ready-headed, ready-put}
 use Rattle.promise.proofs.AppendLaws.{tested-length, tested-ballot, tested-term}
 use Rattle.replace.proofs.TakingLaws.{taking-head, stays-rows, replaced-rows}
-use Rattle.replace.specs.Taken.{takenBy, Heard}
+use Rattle.replace.specs.Taken.{takenBy, HearsTaking}
 use Rattle.replace.proofs.TakenLaws.{takenBy-legal}
 
 -- ---- what fits
@@ -63,7 +63,7 @@ module _ (k : Kept) (prev prevterm end : ℕ) (fit : fits k prev prevterm end �
 
 -- ---- the bytes
 
-module _ {w : Who} {h : Head} {l : List ℕ} {prev prevterm chosen count : ℕ} {s : List ℕ} (t : Heard w h l prev prevterm chosen count s) where
+module _ {w : Who} {h : Head} {l : List ℕ} {prev prevterm chosen count : ℕ} {s : List ℕ} (t : HearsTaking w h l prev prevterm chosen count s) where
   abbrev k : Kept
   k = stateIn l .kept
 

@@ -13,12 +13,12 @@ use Rattle.state.specs.Head.{headIn, headOf}
 use Rattle.state.proofs.LegalLaws.{legal-held, legalState-kept, follower-legal}
 use Rattle.state.proofs.ImageLaws.{image-head}
 use Rattle.rules.specs.Events.{withTerm}
-use Rattle.rules.specs.Receive.{raised, fits}
+use Rattle.rules.specs.Receive.{followerAt, fits}
 use Rattle.promise.specs.Promise.{Ready, HearsAppend}
 use Rattle.promise.specs.Heads.{following}
 use Rattle.promise.proofs.PromiseLaws.{ready-legal, ready-head, ready-next, ready-term}
 use Rattle.promise.proofs.HeadsLaws.{following-head}
-use Rattle.replace.specs.Taken.{takenBy, Followed, Heard}
+use Rattle.replace.specs.Taken.{takenBy, Followed, HearsTaking}
 
 -- ---- the follower
 
@@ -30,13 +30,13 @@ module _ (w : Who) (l : List ℕ) (r : Ready w l) where
   after-legal = follower-legal w (stateIn l .kept) (legalState-kept w (stateIn l) (ready-legal w l r))
 
   -- Raised to its own term, a hub keeps what it keeps.
-  raised-own : (t : ℕ) → t ≡ stateIn l .kept .term → raised (stateIn l) t ≡ after
-  unfolding raised withTerm
+  raised-own : (t : ℕ) → t ≡ stateIn l .kept .term → followerAt (stateIn l) t ≡ after
+  unfolding followerAt withTerm
   raised-own t e = rw e
 
   -- The bytes and the head of a follower of the own term.
   pub follow-steps :
-      {h f : Head} {l′ : List ℕ} → h ≡ headIn l → l′ ≡ image (raised (stateIn l) (h .term .0)) → f ≡ following h (h .term)
+      {h f : Head} {l′ : List ℕ} → h ≡ headIn l → l′ ≡ image (followerAt (stateIn l) (h .term .0)) → f ≡ following h (h .term)
       → Followed w l f l′
   unfolding withTerm headOf
   follow-steps {h} {f} {l′} eh el ef =
@@ -65,7 +65,7 @@ module _
     kept-is = ap (λ (x : State). x .kept) (f .state-is)
 
     -- The follower hears the append.
-    pub follow-heard : Heard w h l1 prev prevterm chosen count s
+    pub follow-heard : HearsTaking w h l1 prev prevterm chosen count s
     follow-heard = record { tested = f .tested; follows = ap (λ (x : State). x .lost) (f .state-is); lie = a .lie; legal = rw kept-is (a .legal) }
 
     -- What the follower answers and takes is what the hub has to that became it.

@@ -27,7 +27,7 @@ pub record Followed (w : Who) (l : List ℕ) (h : Head) (l′ : List ℕ) : Type
   pub state-is : stateIn l′ ≡ record { kept = stateIn l .kept; lost = follower }
 
 -- What holds where a follower with this head hears an append: it is legal at the hub's term, and its entry lines stand in s.
-pub record Heard (w : Who) (h : Head) (l : List ℕ) (prev prevterm chosen count : ℕ) (s : List ℕ) : Type 0 where
+pub record HearsTaking (w : Who) (h : Head) (l : List ℕ) (prev prevterm chosen count : ℕ) (s : List ℕ) : Type 0 where
   pub tested : Tested w h l
   pub follows : stateIn l .lost ≡ follower
   pub lie : Lie count s

@@ -5,7 +5,7 @@ ghost use Rattle.message.specs.Walk.{entriesFrom};
 ghost use Rattle.state.specs.Image.{image, stateIn};
 ghost use Rattle.rules.specs.Receive.{fits};
 ghost use Rattle.promise.specs.Promise.{whoIn, Ready, HearsAppend};
-ghost use Rattle.replace.specs.Taken.{takenBy, Followed, Heard};
+ghost use Rattle.replace.specs.Taken.{takenBy, Followed, HearsTaking};
 use kinds::Place;
 use kinds::Term;
 use promise::Caller;
@@ -33,7 +33,7 @@ fn take_in(
     count: u32,
     lines: &[u8],
 ) -> bool
-    requires { ⌜ Heard (whoIn g) h (now state) (prev .0) (prevterm .0) (chosen .0) count (now lines) ⌝ }
+    requires { ⌜ HearsTaking (whoIn g) h (now state) (prev .0) (prevterm .0) (chosen .0) count (now lines) ⌝ }
     ensures { λ r. ⌜ (r ≡ fits (stateIn (now (state .entry)) .kept) (prev .0) (prevterm .0) (prev .0 + count)) × (now (state .exit) ≡ image (takenBy (stateIn (now (state .entry))) (prev .0) (prevterm .0) (chosen .0) (entriesFrom count (now (lines .entry))))) ⌝ }
 {
     let end = Place::of(prev.number() + count);

@@ -14,7 +14,7 @@ use Rattle.command.specs.Command.{Command, command-size, commandBytes, commandO
 use Rattle.command.specs.Entry.{Entry}
 use Rattle.command.proofs.WordsLaws.{Bytes}
 use Rattle.command.proofs.CommandLaws.{commandBytes-length}
-use Rattle.state.specs.State.{Kept, reported, reportedAt}
+use Rattle.state.specs.State.{Kept, reportedBy, reportedAt}
 use Rattle.rows.specs.Rows.{rowsIn, entryOf}
 use Rattle.state.specs.Image.{head-size, state-size, keptIn, readKept}
 use Rattle.state.specs.Head.{headIn}
@@ -25,7 +25,7 @@ use Rattle.state.proofs.ImageLaws.{readKept-sound}
 use Rattle.rules.specs.Outcome.{done, bad-state, short-output, out-of-range}
 use Rattle.rows.specs.declared.Words.{Words}
 use Rattle.rows.specs.Words.{wordsAt, wordsBytes}
-use Rattle.rules.specs.Report.{Report, told, reporting, reportOf, Reports, counting, chosenOf}
+use Rattle.rules.specs.Report.{Report, told, reporting, reportOf, IsReport, counting, chosenOf}
 use Rattle.promise.proofs.GateLaws.{readKept-some, readKept-none}
 use Rattle.rows.proofs.WordsLaws.{commandIn-at, command-words, duration-below}
 use Rattle.promise.proofs.LostLaws.{kept-length, kept-size, kept-within}
@@ -33,18 +33,18 @@ use Rattle.kinds.specs.Sizes.{row-size}
 use Rattle.kinds.specs.Packed.{packed}
 
 -- Two answers that both satisfy the promise of a report are equal.
-pub reports-unique : {a : Report} {r r′ : ℕ} {out out′ : List ℕ} → Reports a r out → Reports a r′ out′ → (r ≡ r′) × (out ≡ out′)
+pub reports-unique : {a : Report} {r r′ : ℕ} {out out′ : List ℕ} → IsReport a r out → IsReport a r′ out′ → (r ≡ r′) × (out ≡ out′)
 reports-unique p q = (p .outcome-is ∙ sym (q .outcome-is), p .output-is ∙ sym (q .output-is))
 
 -- ---- the command at a place
 
 -- There is none past what is chosen.
 pub reportedAt-past : (k : Kept) (p : ℕ) → k .chosen < p → reportedAt k p ≡ none
-unfolding reportedAt reported
+unfolding reportedAt reportedBy
 reportedAt-past k zero h = absurd (omega arith)
 reportedAt-past k (suc i) h =
     let shown = take (k .chosen) (k .log) in
-    at-out (reported k) i (omega (arith, length-map shown (λ (e : Entry). e .command), length-take (k .chosen) (k .log)))
+    at-out (reportedBy k) i (omega (arith, length-map shown (λ (e : Entry). e .command), length-take (k .chosen) (k .log)))
 
 -- The command of row i, among the first rows.
 row-reported :
@@ -62,12 +62,12 @@ row-reported (suc i) (suc m) (suc n) l h k =
 
 module _ (l out : List ℕ) (p : ℕ) where
   -- Kept parts that are not legal.
-  pub reported-bad : isSome (readKept l) ≡ false → Reports (reportOf l p out) bad-state out
+  pub reported-bad : isSome (readKept l) ≡ false → IsReport (reportOf l p out) bad-state out
   unfolding reporting
   reported-bad h = rw (readKept-none l h) (record { outcome-is = refl; output-is = refl })
 
   -- Too little room.
-  pub reported-short : isSome (readKept l) ≡ true → length out < 16 → Reports (reportOf l p out) short-output out
+  pub reported-short : isSome (readKept l) ≡ true → length out < 16 → IsReport (reportOf l p out) short-output out
   unfolding reporting
   reported-short h short = rw (readKept-some l h, lt-ltb (length out) 16 short) (record { outcome-is = refl; output-is = refl })
 
@@ -76,12 +76,12 @@ module _ (l out : List ℕ) (p : ℕ) where
     unfolding reporting
     answered a e = rw (readKept-some l h, le-ltb (length out) 16 room, e)
 
-    refused : reportedAt (keptIn l) p ≡ none → Reports (reportOf l p out) out-of-range out
+    refused : reportedAt (keptIn l) p ≡ none → IsReport (reportOf l p out) out-of-range out
     unfolding told
     refused e = rw (answered none e) (record { outcome-is = refl; output-is = refl })
 
     -- Place 0.
-    pub reported-zero : p ≡ 0 → Reports (reportOf l p out) out-of-range out
+    pub reported-zero : p ≡ 0 → IsReport (reportOf l p out) out-of-range out
     unfolding reportedAt
     reported-zero z = refused (rw z refl)
 
@@ -90,7 +90,7 @@ module _ (l out : List ℕ) (p : ℕ) where
     chosen-is = refl
 
     -- A place past what is chosen.
-    pub reported-past : headIn l .chosen .0 < p → Reports (reportOf l p out) out-of-range out
+    pub reported-past : headIn l .chosen .0 < p → IsReport (reportOf l p out) out-of-range out
     reported-past above = refused (reportedAt-past (keptIn l) p (omega (arith, chosen-is)))
 
     chosen-within : headIn l .chosen .0 ≤ headIn l .length .0
@@ -104,7 +104,7 @@ module _ (l out : List ℕ) (p : ℕ) where
       reported-inside = omega (arith, chosen-within, kept-size l o h, kept-within l o h)
 
       stands : reportedAt (keptIn l) p ≡ some (commandOf (part (head-size + (p - 1) * row-size + 4) command-size l))
-      unfolding reportedAt reported keptIn headIn
+      unfolding reportedAt reportedBy keptIn headIn
       stands =
           let i = p - 1 in
           let e : p ≡ suc i = omega arith in
@@ -117,7 +117,7 @@ module _ (l out : List ℕ) (p : ℕ) where
       -- Its words are written at the start of the output.
       pub reported-done :
           {from at : ℕ} {c : Words} {out′ : List ℕ} → from ≡ head-size + (p - 1) * row-size → at ≡ from + 4 → c ≡ wordsAt at l → out′ ≡ sets out 0 (wordsBytes c)
-          → Reports (reportOf l p out) done out′
+          → IsReport (reportOf l p out) done out′
       unfolding told
       reported-done {c = c} efrom eat ec ew =
           let at = head-size + (p - 1) * row-size + 4 in

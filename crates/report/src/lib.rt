@@ -1,6 +1,6 @@
 // What a hub reports: the commands at places 1 to chosen of its log, and no others. The kept parts of its state alone are looked at.
 ghost use mathlib.Core.Path.{_≡_};
-ghost use Rattle.rules.specs.Report.{Reports, reportOf, chosenOf};
+ghost use Rattle.rules.specs.Report.{IsReport, reportOf, chosenOf};
 use kinds::Place;
 
 // The bytes of a command.
@@ -9,7 +9,7 @@ const COMMAND: usize = 16;
 // The command that a hub reports at a place: its 16 bytes at the start of `out`. A refusal (2: kept parts not legal; 3: too little room; 12: the place is not in
 // 1..chosen) leaves every byte.
 pub fn reported_at(state: &[u8], place: u32, out: &mut [u8]) -> u32
-    ensures { λ r. ⌜ Reports (reportOf (now (state .entry)) place (now (out .entry))) r (now (out .exit)) ⌝ }
+    ensures { λ r. ⌜ IsReport (reportOf (now (state .entry)) place (now (out .entry))) r (now (out .exit)) ⌝ }
 {
     if !legal::is_kept_legal(state) {
         return kinds::BAD_STATE;

@@ -17,7 +17,7 @@ use Rattle.state.specs.State.{Kept, Lost, follower, candidate, leader, State}
 use Rattle.state.specs.Legal.{all, legalKept, legalLost, legalState}
 use Rattle.rules.specs.Outcome.{wrong-role, no-term-left, bad-command, log-full, out-of-range}
 use Rattle.rules.specs.Events.{isLeader, len, withTerm, leads, started, asks, start, withEntry, proposeLeading, propose, sends, send, restart}
-use Rattle.rules.specs.Theorems.{Grows, Says}
+use Rattle.rules.specs.Theorems.{Grows, SaysLegal}
 use Rattle.kinds.proofs.BoolLaws.{and-second, and-both, or-first, or-second, cond-either, cond-some}
 use Rattle.rules.proofs.CountLaws.{all-weaker, all-set, all-drop, all-replicate, count-set, count-none}
 use Rattle.kinds.proofs.BetweenLaws.{between-in}
@@ -167,7 +167,7 @@ module _ (w : Who) (i : IsWho w) where
 
   sends-says :
       (s : State) (confirmed : List ℕ) (peer prev : ℕ) → legalState w s ≡ true → IsLeader w (s .kept) confirmed → isHub (w .size) peer ≡ true → prev ≤ len s
-      → Says w s (sends w s peer prev)
+      → SaysLegal w s (sends w s peer prev)
   unfolding sends legalTo
   sends-says s confirmed peer prev h l hub in-log =
       let k = s .kept in

@@ -12,7 +12,7 @@ use Rattle.state.specs.Legal.{legalState}
 use Rattle.rules.specs.Outcome.{Next, done, stale, goes, refuses}
 use Rattle.rules.specs.Events.{says}
 use Rattle.rules.specs.Receive.{Effect, idle, effect}
-use Rattle.rules.specs.Theorems.{Grows, Says}
+use Rattle.rules.specs.Theorems.{Grows, SaysLegal}
 use Rattle.kinds.proofs.BoolLaws.{none-some}
 use Rattle.rules.proofs.LegalLaws.{IsWho, is-legalMessage}
 
@@ -20,7 +20,7 @@ use Rattle.rules.proofs.LegalLaws.{IsWho, is-legalMessage}
 pub record Sound (w : Who) (s next : State) (message : Option Message) : Type 0 where
   pub legal : legalState w next ≡ true
   pub grows : Grows (s .kept) (next .kept)
-  pub writes : (m : Message) → message ≡ some m → Says w next m
+  pub writes : (m : Message) → message ≡ some m → SaysLegal w next m
 
 -- What an event comes to.
 pub record Fair (w : Who) (s : State) (n : Next) : Type 0 where
@@ -58,19 +58,19 @@ grows-then g h =
 -- ---- messages
 
 -- Nothing is written.
-pub writes-none : (w : Who) (next : State) (m : Message) → _≡_ {A = Option Message} none (some m) → Says w next m
+pub writes-none : (w : Who) (next : State) (m : Message) → _≡_ {A = Option Message} none (some m) → SaysLegal w next m
 writes-none w next m e = none-some e
 
 -- One message is written.
-pub writes-one : (w : Who) (next : State) (x : Message) → Says w next x → (m : Message) → some x ≡ some m → Says w next m
+pub writes-one : (w : Who) (next : State) (x : Message) → SaysLegal w next x → (m : Message) → some x ≡ some m → SaysLegal w next m
 writes-one w next x h m e =
     let same : x ≡ m = cc in
-    subst (λ (y : Message). Says w next y) same h
+    subst (λ (y : Message). SaysLegal w next y) same h
 
 -- What a hub says at its term is legal, if its to and its fields are.
 pub says-legal :
     (w : Who) → IsWho w → (s next : State) (to : ℕ) (body : Body) → next .kept .term ≡ s .kept .term → 1 ≤ s .kept .term → s .kept .term ≤ term-most
-    → legalTo to body ≡ true → legalBody (s .kept .term) body ≡ true → Says w next (says w s to body)
+    → legalTo to body ≡ true → legalBody (s .kept .term) body ≡ true → SaysLegal w next (says w s to body)
 unfolding says
 says-legal w i s next to body same first last t b =
     record {

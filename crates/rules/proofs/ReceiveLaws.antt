@@ -15,8 +15,8 @@ use Rattle.state.specs.State.{Kept, State}
 use Rattle.state.specs.Legal.{legalState}
 use Rattle.rules.specs.Outcome.{Next, done, stale, not-addressed, contradicting, nothing-new}
 use Rattle.rules.specs.Events.{isLeader, isCandidate, len, says, withTerm}
-use Rattle.rules.specs.Receive.{Effect, idle, effect, vote, rule, isMisaddressed, isRequest, isStale, staleReply, contradicts, raised, afterRaise, atOwnTerm, receive}
-use Rattle.rules.specs.Theorems.{Grows, Says, ChangesNothing, NothingNew}
+use Rattle.rules.specs.Receive.{Effect, idle, effect, vote, rule, isMisaddressed, isRequest, isStale, staleReply, contradicts, followerAt, afterRaise, atOwnTerm, receive}
+use Rattle.rules.specs.Theorems.{Grows, SaysLegal, ChangesNothing, NothingNew}
 use Rattle.kinds.proofs.BoolLaws.{and-first, and-either, or-either, or-first, or-second, cond-either, not-both}
 use Rattle.kinds.proofs.BetweenLaws.{between-in}
 use Rattle.command.proofs.EntryLaws.{legalEntries-wider}
@@ -89,7 +89,7 @@ module _ (w : Who) (i : IsWho w) where
     -- ---- a stale message
 
     -- The reply is legal.
-    staleReply-says : (body : Body) (m : Message) → staleReply w s from body ≡ some m → Says w s m
+    staleReply-says : (body : Body) (m : Message) → staleReply w s from body ≡ some m → SaysLegal w s m
     unfolding staleReply legalTo legalBody
     staleReply-says (vote-request last ballot) =
         writes-one w s (says w s from vote-no) (says-legal w i s s from vote-no refl first (legalState-kept w s h .term) peer refl)
@@ -127,8 +127,8 @@ module _ (w : Who) (s : State) where
 -- ---- a message of a higher term
 
 -- A follower of a higher term is contradicted by nothing.
-pub raised-agrees : (s : State) (t : ℕ) (body : Body) → contradicts (raised s t) body ≡ false
-unfolding raised contradicts isLeader isCandidate
+pub raised-agrees : (s : State) (t : ℕ) (body : Body) → contradicts (followerAt s t) body ≡ false
+unfolding followerAt contradicts isLeader isCandidate
 raised-agrees s t (vote-request last ballot) = refl
 raised-agrees s t (vote-yes last ballot entries) = refl
 raised-agrees s t vote-no = refl
@@ -202,10 +202,10 @@ module _ (w : Who) (i : IsWho w) (s : State) (h : legalState w s ≡ true) (m : 
   -- The rules after a higher term.
   raised-fair :
       isMisaddressed w m ≡ false → s .kept .term < m .term
-      → (let r = raised s (m .term) in Fair w s (afterRaise r (rule w r (m .from) (m .body))))
-  unfolding raised withTerm
+      → (let r = followerAt s (m .term) in Fair w s (afterRaise r (rule w r (m .from) (m .body))))
+  unfolding followerAt withTerm
   raised-fair a up =
-      let r = raised s (m .term) in
+      let r = followerAt s (m .term) in
       let kept = legalState-kept w s h in
       let next = follower-legal w (withTerm (s .kept) (m .term)) (withTerm-kept (s .kept) (m .term) kept (omega arith) (legal .last)) in
       afterRaise-fair w s r (rule w r (m .from) (m .body)) next (withTerm-grows (s .kept) (m .term) (omega arith))
@@ -239,7 +239,7 @@ module _ (w : Who) (i : IsWho w) (s : State) (h : legalState w s ≡ true) (m : 
       (λ b.
       cond-either exactly (ltb (s .kept .term) (m .term))
       (λ c.
-      let r = raised s (m .term) in (
+      let r = followerAt s (m .term) in (
         λ e. absurd (omega (arith, afterRaise-done r (rule w r (m .from) (m .body)))),
         λ n. absurd (omega (arith, ltb-true (s .kept .term) (m .term) c, n .own-term)),
       ))

@@ -18,7 +18,7 @@ use Rattle.state.specs.Legal.{legalKept, legalState}
 use Rattle.state.specs.Image.{state-size, image, keptIn, stateIn, readState, readKept}
 use Rattle.rules.specs.Outcome.{done, not-known, bad-state, short-output, bad-message}
 use Rattle.rules.specs.Events.{restart}
-use Rattle.rules.specs.Step.{Call, Event, start-event, propose-event, send-event, restart-event, receive-event, eventOf, refusal, over, written, answer, receiving, acting, keptAlone, seen, atState, atEvent, stepOf}
+use Rattle.rules.specs.Step.{Call, Event, start-event, propose-event, send-event, restart-event, receive-event, eventOf, refusal, over, written, answer, receiving, acting, keptAlone, seenBy, atState, atEvent, stepOf}
 use Rattle.rules.specs.Happens.{Occasion, to-start, to-propose, to-send, to-restart, to-receive, happens, legalAt, received, occasionOf, Meets}
 use Rattle.rules.specs.Theorems.{Leaves, StepIsWhatHappens, CallLeavesLegal}
 use Rattle.kinds.proofs.BoolLaws.{and-first, and-second, and-both, cond-either, none-some, cond-some}
@@ -133,8 +133,8 @@ module _ (c : Call) where
     receiving-leaves s none h legal = refusal-leaves bad-message (λ e. omega arith)
     receiving-leaves s (some m) h legal = answer-leaves s (to-receive m) (record { size = size; own = own; legal = and-both h (legal m refl) })
 
-    acting-leaves : (e : Event) (s : State) → seen (c .who) e (c .state) ≡ some s → Leaves c (acting c e s)
-    unfolding acting seen happens legalAt
+    acting-leaves : (e : Event) (s : State) → seenBy (c .who) e (c .state) ≡ some s → Leaves c (acting c e s)
+    unfolding acting seenBy happens legalAt
     acting-leaves start-event s h = answer-leaves s to-start (record { size = size; own = own; legal = readState-legal (c .who) (c .state) s h })
     acting-leaves propose-event s h =
         answer-leaves s (to-propose (c .input)) (record { size = size; own = own; legal = readState-legal (c .who) (c .state) s h })
@@ -146,7 +146,7 @@ module _ (c : Call) where
     acting-leaves receive-event s h =
         receiving-leaves s (read (c .input)) (readState-legal (c .who) (c .state) s h) (read-legal (c .input))
 
-    atState-leaves : (e : Event) (x : Option State) → seen (c .who) e (c .state) ≡ x → Leaves c (atState c e x)
+    atState-leaves : (e : Event) (x : Option State) → seenBy (c .who) e (c .state) ≡ x → Leaves c (atState c e x)
     unfolding atState
     atState-leaves e none h = refusal-leaves bad-state (λ e. omega arith)
     atState-leaves e (some s) h =
@@ -160,7 +160,7 @@ module _ (c : Call) where
       let size = isSize (c .who .size) in
       let own = isHub (c .who .size) (c .who .own) in
       cond-either (Leaves c) (size && own)
-      (λ t. atState-leaves (and-first size own t) (and-second size own t) e (seen (c .who) e (c .state)) refl)
+      (λ t. atState-leaves (and-first size own t) (and-second size own t) e (seenBy (c .who) e (c .state)) refl)
       (λ t. refusal-leaves not-known (λ e. omega arith))
 
 -- Every call leaves what is legal.

@@ -20,7 +20,7 @@ use Rattle.state.specs.State.{Kept, Lost, follower, candidate, leader, State, f
 use Rattle.state.specs.Legal.{legalKept, legalLost, legalState}
 use Rattle.rules.specs.Outcome.{done}
 use Rattle.rules.specs.Events.{isLeader, len, withTerm, leads, started, start, withEntry, proposeLeading, propose, send, restart}
-use Rattle.rules.specs.Receive.{Effect, heardYes, fits, taken, heardAppend, heardEnd, rule, isStale, raised, afterRaise, receive}
+use Rattle.rules.specs.Receive.{Effect, heardYes, fits, taken, heardAppend, heardEnd, rule, isStale, followerAt, afterRaise, receive}
 use Rattle.rules.specs.Happens.{Occasion, to-start, to-propose, to-send, to-restart, to-receive, happens, legalAt, Meets}
 use Rattle.rules.specs.Theorems.{NextIsLegal, NothingFalls, MessageIsLegal, RefusalLeaves, RefusalIsSilent, ThirteenExactly, MajorityPlaceInLog, StartTakesEffect, ProposeTakesEffect, SendTakesEffect, RestartTakesEffect, HigherTermTakesEffect, FreshIsLegal}
 use Rattle.kinds.proofs.BoolLaws.{and-first, and-second, not-both, cond-either}
@@ -137,13 +137,13 @@ restart-takes-effect w s = refl
 
 -- A message of a higher term: no rule changes the term once more.
 pub raised-term :
-    (w : Who) (s : State) (t from : ℕ) (body : Body) → (let r = raised s t in afterRaise r (rule w r from body) .state .kept .term ≡ t)
-unfolding raised withTerm afterRaise rule heardYes heardAppend heardEnd taken
+    (w : Who) (s : State) (t from : ℕ) (body : Body) → (let r = followerAt s t in afterRaise r (rule w r from body) .state .kept .term ≡ t)
+unfolding followerAt withTerm afterRaise rule heardYes heardAppend heardEnd taken
 raised-term w s t from (vote-request last ballot) = refl
 raised-term w s t from (vote-yes last ballot entries) = refl
 raised-term w s t from vote-no = refl
 raised-term w s t from (append prev prevterm chosen entries) =
-    let r = raised s t in
+    let r = followerAt s t in
     cond-either (λ (e : Effect). afterRaise r e .state .kept .term ≡ t) (fits (r .kept) prev prevterm (prev + length entries)) (λ f. refl) (λ f. refl)
 raised-term w s t from (append-yes end) = refl
 raised-term w s t from (append-no length) = refl
@@ -159,7 +159,7 @@ higher-fresh s m up =
 pub higher-term-takes-effect : HigherTermTakesEffect
 unfolding happens receive
 higher-term-takes-effect w s m addressed up =
-    let r = raised s (m .term) in
+    let r = followerAt s (m .term) in
     let higher : ltb (s .kept .term) (m .term) ≡ true = lt-ltb (s .kept .term) (m .term) up in
     rw (addressed, higher-fresh s m up, higher)
     (afterRaise-done r (rule w r (m .from) (m .body)), raised-term w s (m .term) (m .from) (m .body))

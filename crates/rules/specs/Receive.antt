@@ -160,8 +160,8 @@ contradicts s (append-no length) = false
 -- ---- the whole event
 
 -- A follower of that term with its lost parts cleared.
-unfoldable pub raised : State → ℕ → State
-raised s term = record { kept = withTerm (s .kept) term; lost = follower }
+unfoldable pub followerAt : State → ℕ → State
+followerAt s term = record { kept = withTerm (s .kept) term; lost = follower }
 
 -- A message with a higher term: outcome 0 whatever follows.
 unfoldable pub afterRaise : State → Effect → Next
@@ -177,6 +177,6 @@ unfoldable pub receive : Who → State → Message → Next
 receive w s m =
     cond (isMisaddressed w m) (refuses s not-addressed)
     (cond (isStale s m) (record { outcome = stale; state = s; message = staleReply w s (m .from) (m .body) })
-    (cond (ltb (s .kept .term) (m .term)) (let r = raised s (m .term) in afterRaise r (rule w r (m .from) (m .body)))
+    (cond (ltb (s .kept .term) (m .term)) (let r = followerAt s (m .term) in afterRaise r (rule w r (m .from) (m .body)))
     (cond (contradicts s (m .body)) (refuses s contradicting)
     (atOwnTerm s (rule w s (m .from) (m .body))))))

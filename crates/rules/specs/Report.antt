@@ -33,7 +33,7 @@ abbrev pub reportOf : List ℕ → ℕ → List ℕ → Report
 reportOf state p out = reporting (readKept state) p out
 
 -- An outcome and the bytes left are as they have to be.
-pub record Reports (a : Report) (outcome : ℕ) (output : List ℕ) : Type 0 where
+pub record IsReport (a : Report) (outcome : ℕ) (output : List ℕ) : Type 0 where
   pub outcome-is : outcome ≡ a .outcome
   pub output-is : output ≡ a .output
 

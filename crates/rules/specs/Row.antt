@@ -10,7 +10,7 @@ use Rattle.state.specs.Legal.{all}
 use Rattle.rules.specs.Step.{Call, Answer, stepOf, over}
 use Rattle.kinds.specs.Same.{same}
 
-pub record Row : Type 0 where
+pub record CaseRow : Type 0 where
   pub case : ℕ  -- the number of the case, or the outcome that the row is an example of
   pub who : Who
   pub event : ℕ
@@ -24,10 +24,10 @@ pub record Row : Type 0 where
   pub message : List ℕ  -- the text that is written; empty for none
 
 -- An output filled with a byte that no message has.
-abbrev pub lent : Row → List ℕ
+abbrev pub lent : CaseRow → List ℕ
 lent r = replicate (r .room) 255
 
-abbrev pub callOf : Row → Call
+abbrev pub callOf : CaseRow → Call
 callOf r =
     record {
       who = r .who;
@@ -40,16 +40,16 @@ callOf r =
     }
 
 -- The answer of a call: outcome, bytes written, every byte of the state and of the output.
-abbrev pub answers : Row → Answer → Bool
+abbrev pub answers : CaseRow → Answer → Bool
 answers r given =
     eqb (given .outcome) (r .outcome)
     && (eqb (given .wrote) (length (r .message))
     && (same (given .state) (r .next) && same (given .output) (over (r .message) (lent r))))
 
 -- The step gives what the row says.
-unfoldable pub holds : Row → Bool
+unfoldable pub holds : CaseRow → Bool
 holds r = answers r (stepOf (callOf r))
 
 -- Every row of a table holds.
-abbrev pub AllHold : List Row → Type 0
+abbrev pub AllHold : List CaseRow → Type 0
 AllHold table = all holds table ≡ true

@@ -10,7 +10,7 @@ use Rattle.command.specs.Command.{Command}
 use Rattle.command.specs.Entry.{Entry}
 use Rattle.state.specs.State.{Kept, Pair, follower, candidate, leader, State}
 use Rattle.state.specs.Image.{image}
-use Rattle.rules.specs.Row.{Row}
+use Rattle.rules.specs.Row.{CaseRow}
 
 -- ---- commands
 
@@ -28,29 +28,29 @@ buzzBytes duration gain = 0 ∷ 3 ∷ 0 ∷ 1 ∷ (duration ++ (gain ++ (0 ∷ 0
 abbrev pub ms250 : List ℕ
 ms250 = 0 ∷ 0 ∷ 0 ∷ 250 ∷ []
 
-abbrev pub half : List ℕ
-half = 0x3f ∷ 0 ∷ 0 ∷ 0 ∷ []
+abbrev pub halfGain : List ℕ
+halfGain = 0x3f ∷ 0 ∷ 0 ∷ 0 ∷ []
 
-abbrev pub entry : ℕ → Entry
-entry t = record { term = t; command = buzz }
+abbrev pub buzzEntry : ℕ → Entry
+buzzEntry t = record { term = t; command = buzz }
 
 -- ---- states
 
 abbrev pub kept : ℕ → ℕ → ℕ → List Entry → Kept
 kept term ballot chosen log = record { term = term; ballot = ballot; chosen = chosen; log = log }
 
-abbrev pub following : Kept → State
-following k = record { kept = k; lost = follower }
+abbrev pub followerWith : Kept → State
+followerWith k = record { kept = k; lost = follower }
 
-abbrev pub standing : Kept → List Bool → List Pair → State
-standing k voters gathered = record { kept = k; lost = candidate voters gathered }
+abbrev pub candidateWith : Kept → List Bool → List Pair → State
+candidateWith k voters gathered = record { kept = k; lost = candidate voters gathered }
 
-abbrev pub leading : Kept → List ℕ → State
-leading k confirmed = record { kept = k; lost = leader confirmed }
+abbrev pub leaderWith : Kept → List ℕ → State
+leaderWith k confirmed = record { kept = k; lost = leader confirmed }
 
 -- Hub 1 alone has voted.
-abbrev pub first : List Bool
-first = true ∷ replicate 6 false
+abbrev pub hub1Alone : List Bool
+hub1Alone = true ∷ replicate 6 false
 
 -- Hub 1 has confirmed n places, hub 2 m, the others none.
 abbrev pub confirmed : ℕ → ℕ → List ℕ
@@ -58,10 +58,10 @@ confirmed n m = n ∷ m ∷ replicate 5 0
 
 -- Hub 1, elected at term 1 with empty logs, and with one command proposed.
 abbrev pub elected : State
-elected = leading (kept 1 1 0 []) (confirmed 0 0)
+elected = leaderWith (kept 1 1 0 []) (confirmed 0 0)
 
 abbrev pub withOne : Command → State
-withOne c = leading (kept 1 1 0 (record { term = 1; command = c } ∷ [])) (confirmed 1 0)
+withOne c = leaderWith (kept 1 1 0 (record { term = 1; command = c } ∷ [])) (confirmed 1 0)
 
 -- ---- texts
 
@@ -79,8 +79,8 @@ end-text = ascii "type=append-yes\nterm=1\nfrom=2\nto=1\nend=1\n"
 -- ---- rows
 
 -- Hub h of n takes an event (1 start, 2 propose, 3 send, 4 restart, 5 receive) with the numbers a and b at these bytes.
-abbrev pub at : ℕ → ℕ → ℕ → ℕ → ℕ → ℕ → List ℕ → List ℕ → ℕ → List ℕ → List ℕ → Row
-at case h n event a b state input outcome next message =
+abbrev pub stepRow : ℕ → ℕ → ℕ → ℕ → ℕ → ℕ → List ℕ → List ℕ → ℕ → List ℕ → List ℕ → CaseRow
+stepRow case h n event a b state input outcome next message =
     record {
       case = case;
       who = record { size = n; own = h };
@@ -96,9 +96,9 @@ at case h n event a b state input outcome next message =
     }
 
 -- A row of three hubs that takes effect, from one state to another. (A send goes to hub 2, from prev 0.)
-abbrev pub does : ℕ → ℕ → ℕ → State → List ℕ → State → List ℕ → Row
-does case h event s input next message = at case h 3 event 2 0 (image s) input 0 (image next) message
+abbrev pub does : ℕ → ℕ → ℕ → State → List ℕ → State → List ℕ → CaseRow
+does case h event s input next message = stepRow case h 3 event 2 0 (image s) input 0 (image next) message
 
 -- A row of three hubs that is refused with this outcome, and leaves the state.
-abbrev pub refused : ℕ → ℕ → ℕ → State → List ℕ → ℕ → Row
-refused case h event s input outcome = at case h 3 event 2 0 (image s) input outcome (image s) []
+abbrev pub refused : ℕ → ℕ → ℕ → State → List ℕ → ℕ → CaseRow
+refused case h event s input outcome = stepRow case h 3 event 2 0 (image s) input outcome (image s) []

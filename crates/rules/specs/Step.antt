@@ -100,12 +100,12 @@ unfoldable pub keptAlone : Option Kept → Option State
 keptAlone none = none
 keptAlone (some k) = some (restart k .state)
 
-unfoldable pub seen : Who → Event → List ℕ → Option State
-seen w start-event l = readState w l
-seen w propose-event l = readState w l
-seen w send-event l = readState w l
-seen w restart-event l = keptAlone (readKept l)
-seen w receive-event l = readState w l
+unfoldable pub seenBy : Who → Event → List ℕ → Option State
+seenBy w start-event l = readState w l
+seenBy w propose-event l = readState w l
+seenBy w send-event l = readState w l
+seenBy w restart-event l = keptAlone (readKept l)
+seenBy w receive-event l = readState w l
 
 -- Outcomes 2 and 3, then the event.
 unfoldable pub atState : Call → Event → Option State → Answer
@@ -116,7 +116,7 @@ atState c e (some s) = cond (ltb (length (c .output)) text-room) (refusal c shor
 unfoldable pub atEvent : Call → Option Event → Answer
 atEvent c none = refusal c not-known
 atEvent c (some e) =
-    cond (isSize (c .who .size) && isHub (c .who .size) (c .who .own)) (atState c e (seen (c .who) e (c .state)))
+    cond (isSize (c .who .size) && isHub (c .who .size) (c .who .own)) (atState c e (seenBy (c .who) e (c .state)))
     (refusal c not-known)
 
 -- The step.

@@ -18,7 +18,7 @@ use Rattle.rules.specs.Outcome.{done, stale, nothing-new}
 use Rattle.rules.specs.Majority.{confirmedBy, majorityPlace}
 use Rattle.rules.specs.Events.{isLeader, len}
 use Rattle.rules.specs.Receive.{Effect, idle, effect, rule, isMisaddressed, isStale, contradicts}
-use Rattle.rules.specs.Step.{Call, Answer, Event, eventOf, over, written, seen, answer, stepOf}
+use Rattle.rules.specs.Step.{Call, Answer, Event, eventOf, over, written, seenBy, answer, stepOf}
 use Rattle.rules.specs.Happens.{Occasion, to-start, to-propose, to-send, to-restart, to-receive, happens, occasionOf, Meets}
 
 -- ---- words
@@ -31,7 +31,7 @@ pub record Grows (k next : Kept) : Type 0 where
   pub log : length (k .log) ≤ length (next .log)
 
 -- A legal message with the hub itself as from and its term after the step.
-pub record Says (w : Who) (next : State) (m : Message) : Type 0 where
+pub record SaysLegal (w : Who) (next : State) (m : Message) : Type 0 where
   pub legal : legalMessage m ≡ true
   pub from : m .from ≡ w .own
   pub term : m .term ≡ next .kept .term
@@ -76,7 +76,7 @@ CallLeavesLegal = (c : Call) → Leaves c (stepOf c)
 abbrev pub StepIsWhatHappens : Type 0
 StepIsWhatHappens =
     (c : Call) (e : Event) (s : State) (o : Occasion) → eventOf (c .event) ≡ some e → isSize (c .who .size) ≡ true → isHub (c .who .size) (c .who .own) ≡ true
-    → seen (c .who) e (c .state) ≡ some s → text-room ≤ length (c .output) → occasionOf c e ≡ some o
+    → seenBy (c .who) e (c .state) ≡ some s → text-room ≤ length (c .output) → occasionOf c e ≡ some o
     → stepOf c ≡ answer c (happens (c .who) s o)
 
 -- ---- every event
@@ -97,7 +97,7 @@ NothingFalls = (w : Who) (s : State) (o : Occasion) → Meets w s o → Grows (s
 abbrev pub MessageIsLegal : Type 0
 MessageIsLegal =
     (w : Who) (s : State) (o : Occasion) → Meets w s o
-    → (m : Message) → happens w s o .message ≡ some m → Says w (happens w s o .state) m
+    → (m : Message) → happens w s o .message ≡ some m → SaysLegal w (happens w s o .state) m
 
 -- All outcomes but 0 leave the state.
 abbrev pub RefusalLeaves : Type 0

@@ -35,10 +35,10 @@ unfoldable pub fresh : State
 fresh = record { kept = record { term = 0; ballot = 0; chosen = 0; log = [] }; lost = follower }
 
 -- A hub reports the commands at places 1 to chosen of its log, and no others.
-unfoldable pub reported : Kept → List Command
-reported k = map (λ e. e .command) (take (k .chosen) (k .log))
+unfoldable pub reportedBy : Kept → List Command
+reportedBy k = map (λ e. e .command) (take (k .chosen) (k .log))
 
 -- The command that it reports at a place; places are counted from 1.
 unfoldable pub reportedAt : Kept → ℕ → Option Command
 reportedAt k zero = none
-reportedAt k (suc i) = getElem? (reported k) i
+reportedAt k (suc i) = getElem? (reportedBy k) i

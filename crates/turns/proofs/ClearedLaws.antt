@@ -24,7 +24,7 @@ use Rattle.state.proofs.LegalLaws.{rowsOf-length}
 use Rattle.state.proofs.ImageWrites.{kept-cleared}
 use Rattle.rules.specs.Outcome.{Next}
 use Rattle.rules.specs.Events.{started, withTerm, restart}
-use Rattle.rules.specs.Receive.{raised}
+use Rattle.rules.specs.Receive.{followerAt}
 use Rattle.rules.specs.Happens.{to-start, happens, legalAt}
 use Rattle.rules.proofs.Theorems.{next-is-legal}
 use Rattle.promise.specs.Promise.{Ready}
@@ -106,9 +106,9 @@ module _ (w : Who) (l : List ℕ) (r : Ready w l) where
     pub raise-steps :
         {h f : Head} {l1 l2 : List ℕ} → h ≡ headIn l
         → l1 ≡ sets l (head-size + h .length .0 * row-size) (replicate (h .gathered .0 * row-size) 0) → f ≡ following h (term t) → l2 ≡ sets l1 0 (bytesOfHead f)
-        → l2 ≡ image (raised (stateIn l) t)
-    unfolding raised withTerm gatheredOf
+        → l2 ≡ image (followerAt (stateIn l) t)
+    unfolding followerAt withTerm gatheredOf
     raise-steps eh e1 ef e2 =
         let s = stateIn l in
         let head = ap (λ (x : Head). following x (term t)) (eh ∙ ready-head w l r) ∙ following-head (s .kept) (s .lost) t in
-        rw (e2, e1, ef ∙ head, eh) (lost-cleared (raised s t) (raised-legal w l r t up last) refl refl)
+        rw (e2, e1, ef ∙ head, eh) (lost-cleared (followerAt s t) (raised-legal w l r t up last) refl refl)

@@ -8,7 +8,7 @@ ghost use Rattle.kinds.specs.Sizes.{limit, row-size};
 ghost use Rattle.state.specs.Image.{head-size, state-size, image, keptIn, stateIn, readKept};
 ghost use Rattle.state.specs.Check.{isSome};
 ghost use Rattle.rules.specs.Events.{started, restart};
-ghost use Rattle.rules.specs.Receive.{raised};
+ghost use Rattle.rules.specs.Receive.{followerAt};
 ghost use Rattle.promise.specs.Promise.{whoIn, Starts, Raises};
 use kinds::Term;
 use promise::Caller;
@@ -42,7 +42,7 @@ pub fn clear_gathered(h: Head, state: &mut [u8])
 // Becomes a follower of its own term or of a higher one, lost parts cleared.
 pub fn raise_in(g: Caller, h: Head, t: Term, state: &mut [u8])
     requires { ⌜ Raises (whoIn g) h (t .0) (now state) ⌝ }
-    ensures { λ _. ⌜ now (state .exit) ≡ image (raised (stateIn (now (state .entry))) (t .0)) ⌝ }
+    ensures { λ _. ⌜ now (state .exit) ≡ image (followerAt (stateIn (now (state .entry))) (t .0)) ⌝ }
 {
     clear_gathered(h, state);
     head::write_head(state, heads::follow(h, t));

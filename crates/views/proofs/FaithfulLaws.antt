@@ -8,7 +8,7 @@ use mathlib.Core.List.{List, _∷_}
 use Prim.Native.Nat.{ℕ, _<_}
 use native.Mathlib.Omega.{arith}
 use Rattle.paxos.specs.Put.{put}
-use Rattle.paxos.specs.Paxos.{Can, Machine, Seen, at, Event, asked, proposed, voted, History, _∈_, here, there, _⊆_, promise, Steps, Run}
+use Rattle.paxos.specs.Paxos.{Can, Machine, Seen, at, Happening, asked, proposed, voted, History, _∈_, here, there, _⊆_, promise, Steps, Run}
 use Rattle.paxos.proofs.PutLaws.{put-cases, put-same}
 use Rattle.paxos.proofs.QuorumLaws.{share}
 use Rattle.paxos.proofs.Member.{clash, new, as-in}
@@ -16,7 +16,7 @@ use Rattle.paxos.proofs.Steps.{steps-one, steps-trans, steps-keep}
 use Rattle.paxos.proofs.Safe.{unique}
 use Rattle.views.specs.Hall.{View, with-term, with-vote, Gift, Hall, giving, turned, Leads, gave}
 use Rattle.views.specs.Faithful.{Keeps, Owns, Authored, Faithful}
-use Rattle.views.specs.Acts.{Act, ask, raise, give, make, take, say}
+use Rattle.views.specs.Acts.{Act, to-ask, to-raise, to-give, to-make, to-take, to-say}
 use Rattle.views.proofs.KeepsLaws.{keeps-event, keeps-gift, keeps-raise, keeps-say, keeps-vote}
 
 -- ---- who leads, and what it proposed
@@ -52,16 +52,16 @@ module _ {C : Type 0} {M : Machine C} {H : Hall C} (ok : Faithful M H) where
   -- Behind each action the machine takes zero or more steps.
   pub act-steps : {J : Hall C} → Act M H J → Steps M (H .past) (J .past)
   unfolding promise
-  act-steps ask = steps-one Can.ask
-  act-steps (raise {h} is lt) = let pr = (ok .hubs h) .promised in steps-one (Can.raise is (omega arith))
-  act-steps (give {h} is un) = steps-one (Can.report is ((ok .hubs h) .promised) ((ok .hubs h) .held))
-  act-steps (make {h} Q seen is l pick un) =
+  act-steps to-ask = steps-one Can.can-ask
+  act-steps (to-raise {h} is lt) = let pr = (ok .hubs h) .promised in steps-one (Can.can-raise is (omega arith))
+  act-steps (to-give {h} is un) = steps-one (Can.can-report is ((ok .hubs h) .promised) ((ok .hubs h) .held))
+  act-steps (to-make {h} Q seen is l pick un) =
       let pr = (ok .hubs h) .promised in
-      Steps.next
-      (steps-one (Can.propose Q seen (l .most) (λ g q. ok .given g _ _ _ (l .all g q)) pick (λ d m. un d (leader-holds ok l refl m))))
-      (Can.vote is here (omega arith))
-  act-steps (take {h} is m) = let pr = (ok .hubs h) .promised in steps-one (Can.vote is m (omega arith))
-  act-steps (say w more all) = Steps.done
+      Steps.then-step
+      (steps-one (Can.can-propose Q seen (l .most) (λ g q. ok .given g _ _ _ (l .all g q)) pick (λ d m. un d (leader-holds ok l refl m))))
+      (Can.can-vote is here (omega arith))
+  act-steps (to-take {h} is m) = let pr = (ok .hubs h) .promised in steps-one (Can.can-vote is m (omega arith))
+  act-steps (to-say w more all) = Steps.no-step
 
 -- ---- the invariant, action by action
 
@@ -104,8 +104,8 @@ authored-turned {t} {p} {c} view h v own x =
     }
 
 -- A run but for its last event is a run.
-run-before : {C : Type 0} {M : Machine C} {s : History C} {e : Event C} → Run M (e ∷ s) → Run M s
-run-before (Steps.next r k) = r
+run-before : {C : Type 0} {M : Machine C} {s : History C} {e : Happening C} → Run M (e ∷ s) → Run M s
+run-before (Steps.then-step r k) = r
 
 module _ {C : Type 0} {M : Machine C} {H : Hall C} (ok : Faithful M H) where
   -- One hub has another view after its action: what is left to prove, the frame being done.
@@ -173,31 +173,31 @@ module _ {C : Type 0} {M : Machine C} {H : Hall C} (ok : Faithful M H) where
 
   -- Every action keeps the invariant.
   pub act-faithful : {J : Hall C} → Act M H J → Faithful M J
-  act-faithful (ask {c}) =
+  act-faithful (to-ask {c}) =
       record {
-        run = Steps.next (ok .run) Can.ask;
+        run = Steps.then-step (ok .run) Can.can-ask;
         hubs = λ h. keeps-event (ok .hubs h) (asked c) tt;
         given = λ h t l x m. there (ok .given h t l x m);
         once = ok .once;
         authored = λ t p d m. new m (λ e. clash (cc)) (ok .authored t p d);
       }
-  act-faithful (raise {h} {t} is lt) =
-      turned-faithful h _ (raise is lt)
+  act-faithful (to-raise {h} {t} is lt) =
+      turned-faithful h _ (to-raise is lt)
       (keeps-raise (ok .hubs h) t lt)
       (λ g ne. keeps-event (ok .hubs g) _ ne)
       (λ k p c m. new m (λ e. clash (cc)) (λ old. authored-turned _ h _ (owns-raise lt) (ok .authored k p c old)))
-  act-faithful (give {h} {l} is un) =
-      given-faithful h l (give is un)
+  act-faithful (to-give {h} {l} is un) =
+      given-faithful h l (to-give is un)
       (λ g t m n x y a b.
       new a
       (λ e. new b (λ e′. cc) (λ old. absurd (un n y (as-in (cc) old))))
       (λ old. new b (λ e. absurd (un m x (as-in (cc) old))) (ok .once g t m n x y old)))
-  act-faithful (make Q seen is l pick un) = make-faithful l (make Q seen is l pick un)
-  act-faithful (take {h} {p} {c} is m) =
-      turned-faithful h _ (take is m)
+  act-faithful (to-make Q seen is l pick un) = make-faithful l (to-make Q seen is l pick un)
+  act-faithful (to-take {h} {p} {c} is m) =
+      turned-faithful h _ (to-take is m)
       (keeps-vote (ok .hubs h) p c (ok .run) m)
       (λ g ne. keeps-event (ok .hubs g) _ ne)
       (λ k q d n. new n (λ e. clash (cc)) (λ old. authored-turned _ h _ (owns-vote (ok .run) m old) (ok .authored k q d old)))
-  act-faithful (say {h} w more all) =
-      turned-faithful h _ (say w more all) (keeps-say (ok .hubs h) w all) (λ g ne. ok .hubs g)
+  act-faithful (to-say {h} w more all) =
+      turned-faithful h _ (to-say w more all) (keeps-say (ok .hubs h) w all) (λ g ne. ok .hubs g)
       (λ t p c m. authored-turned _ h _ (λ o. record { up = o .up; mine = o .mine }) (ok .authored t p c m))

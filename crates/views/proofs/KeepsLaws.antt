@@ -6,7 +6,7 @@ use mathlib.Core.Bool.{Bool, true}
 use mathlib.Core.List.{List, _∷_}
 use Prim.Native.Nat.{ℕ, _≤_, _<_}
 use native.Mathlib.Omega.{arith}
-use Rattle.paxos.specs.Paxos.{Machine, Seen, never, at, Event, asked, raised, reported, proposed, voted, History, _∈_, here, there, _⊆_, promise, Highest, Run}
+use Rattle.paxos.specs.Paxos.{Machine, Seen, never, at, Happening, asked, raised, reported, proposed, voted, History, _∈_, here, there, _⊆_, promise, Highest, Run}
 use Rattle.paxos.proofs.PutLaws.{put-cases, put-same, put-other}
 use Rattle.paxos.proofs.Member.{new}
 use Rattle.paxos.proofs.Theorems.{binds, stays-at}
@@ -14,7 +14,7 @@ use Rattle.views.specs.Hall.{View, with-term, with-says, with-vote, Gift
 use Rattle.views.specs.Faithful.{Settled, Known, Keeps}
 
 -- The event is no promise and no vote of hub `g`.
-abbrev pub Other : {C : Type 0} → ℕ → Event C → Type 0
+abbrev pub Other : {C : Type 0} → ℕ → Happening C → Type 0
 Other g (asked c) = Unit {0}
 Other g (raised h b) = g ≢ h
 Other g (reported h b seen) = Unit {0}
@@ -23,7 +23,7 @@ Other g (voted h b p c) = g ≢ h
 
 module _ {C : Type 0} where
   -- Such an event leaves the promise.
-  promise-other : (s : History C) (g : ℕ) (e : Event C) → Other g e → promise (e ∷ s) g ≡ promise s g
+  promise-other : (s : History C) (g : ℕ) (e : Happening C) → Other g e → promise (e ∷ s) g ≡ promise s g
   unfolding promise
   promise-other s g (asked c) o = refl
   promise-other s g (raised h b) o = put-other (promise s) h b g o
@@ -32,7 +32,7 @@ module _ {C : Type 0} where
   promise-other s g (voted h b p c) o = refl
 
   -- And the hub's votes.
-  voted-other : {s : History C} {g b p : ℕ} {c : C} {e : Event C} → Other g e → voted g b p c ∈ (e ∷ s) → voted g b p c ∈ s
+  voted-other : {s : History C} {g b p : ℕ} {c : C} {e : Happening C} → Other g e → voted g b p c ∈ (e ∷ s) → voted g b p c ∈ s
   voted-other o here = absurd (o refl)
   voted-other o (there m) = m
 
@@ -69,7 +69,7 @@ module _ {C : Type 0} {M : Machine C} where
 
 module _ {C : Type 0} {M : Machine C} {s : History C} {G : List (Gift C)} {h : ℕ} {v : View C} (ok : Keeps M s G h v) where
   -- Another's event: nothing changes for the hub.
-  pub keeps-event : (e : Event C) → Other h e → Keeps M (e ∷ s) G h v
+  pub keeps-event : (e : Happening C) → Other h e → Keeps M (e ∷ s) G h v
   keeps-event e o =
       record {
         promised = promise-other s h e o ∙ ok .promised;

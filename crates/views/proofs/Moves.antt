@@ -10,13 +10,13 @@ use native.Mathlib.Omega.{arith}
 use native.Mathlib.Nat.{eq-or-lt-of-le}
 use Rattle.paxos.specs.Put.{put}
 use Rattle.paxos.specs.Quorum.{IsHub, Majority}
-use Rattle.paxos.specs.Paxos.{Wanted, Machine, Seen, never, at, Event, asked, raised, reported, proposed, voted, History, _∈_, here, there, _⊆_, Pick, highest, any}
+use Rattle.paxos.specs.Paxos.{Wanted, Machine, Seen, never, at, Happening, asked, raised, reported, proposed, voted, History, _∈_, here, there, _⊆_, Pick, highest, any}
 use Rattle.paxos.proofs.PutLaws.{put-cases, put-same, put-other}
 use Rattle.paxos.proofs.Member.{as-in}
 use Rattle.views.specs.Hall.{View, with-term, with-holds, with-says, with-vote, gave, Hall, turned, Ungiven, Open, Leads}
 use Rattle.paxos.proofs.Theorems.{wanted-on, binds, votes-choose}
 use Rattle.views.specs.Faithful.{Settled, Known, Faithful}
-use Rattle.views.specs.Acts.{Act, done, next}
+use Rattle.views.specs.Acts.{Act, no-act, then-act}
 use Rattle.views.specs.Moves.{Move, Turn, keep, take, make}
 use Rattle.views.proofs.FaithfulLaws.{leads-on}
 use Rattle.views.proofs.Theorems.{acts-trans, acts-keep, acts-gifts}
@@ -26,7 +26,7 @@ use Rattle.views.proofs.Theorems.{acts-trans, acts-keep, acts-gifts}
 module _ {C : Type 0} {M : Machine C} where
   -- A hub stays where it is.
   abbrev pub stay : {H : Hall C} {h : ℕ} {v : View C} → H .view h ≡ v → Move M H h v
-  stay {H} e = record { hall = H; acts = done; mine = e; others = λ g ne. refl; quiet = λ c m. m }
+  stay {H} e = record { hall = H; acts = no-act; mine = e; others = λ g ne. refl; quiet = λ c m. m }
 
   -- A hub moves on.
   abbrev pub then : {H : Hall C} {h : ℕ} {v w : View C} (x : Move M H h v) → Move M (x .hall) h w → Move M H h w
@@ -56,14 +56,14 @@ module _ {C : Type 0} {M : Machine C} where
   moved {H} {h} {u} {s} a e quiet =
       record {
         hall = turned H s h u;
-        acts = next done a;
+        acts = then-act no-act a;
         mine = put-same (H .view) h u ∙ e;
         others = λ g ne. put-other (H .view) h u g ne;
         quiet = quiet;
       }
 
 -- The event is no client's.
-abbrev Silent : {C : Type 0} → Event C → Type 0
+abbrev Silent : {C : Type 0} → Happening C → Type 0
 Silent (asked c) = ⊥
 Silent (raised h b) = Unit {0}
 Silent (reported h b seen) = Unit {0}
@@ -71,7 +71,7 @@ Silent (proposed b p c) = Unit {0}
 Silent (voted h b p c) = Unit {0}
 
 -- By such an event nothing is asked for.
-unasked : {C : Type 0} {s : History C} {e : Event C} → Silent e → (c : C) → asked c ∈ (e ∷ s) → asked c ∈ s
+unasked : {C : Type 0} {s : History C} {e : Happening C} → Silent e → (c : C) → asked c ∈ (e ∷ s) → asked c ∈ s
 unasked o c here = absurd o
 unasked o c (there m) = m
 
@@ -93,7 +93,7 @@ module _ {C : Type 0} {M : Machine C} {H : Hall C} {h : ℕ} (is : IsHub (M .siz
   reach t le =
       ⊎-elim
       (λ same. stay (e ∙ (λ i. record { term = same i; holds = v .holds; says = v .says })))
-      (λ lt. moved (Act.raise is (omega (arith, ap (λ u. u .term) e))) (ap (λ u. with-term u t) e) (unasked tt))
+      (λ lt. moved (Act.to-raise is (omega (arith, ap (λ u. u .term) e))) (ap (λ u. with-term u t) e) (unasked tt))
       (eq-or-lt-of-le le)
 
   -- A hub that has not yet given its report at its term gives it to hub `l`.
@@ -101,7 +101,7 @@ module _ {C : Type 0} {M : Machine C} {H : Hall C} {h : ℕ} (is : IsHub (M .siz
       (l : ℕ) → Ungiven (H .gifts) h (v .term)
       → (x : Move M H h v) × (gave h (v .term) l (v .holds) ∈ x .hall .gifts)
   hand l un = (
-    record { hall = _; acts = next done (Act.give {l = l} is (rw e un)); mine = e; others = λ g ne. refl; quiet = unasked tt },
+    record { hall = _; acts = then-act no-act (Act.to-give {l = l} is (rw e un)); mine = e; others = λ g ne. refl; quiet = unasked tt },
     as-in (ap (λ u. gave h (u .term) l (u .holds)) (sym e)) here,
   )
 
@@ -111,15 +111,15 @@ module _ {C : Type 0} {M : Machine C} {H : Hall C} {h : ℕ} (is : IsHub (M .siz
       → ((p : ℕ) → v .says p ≡ true → w p ≡ true)
       → ((p : ℕ) → w p ≡ true → (v .says p ≡ true) ⊎ Known M (H .past) (v .term) p (v .holds p))
       → Move M H h (with-says v w)
-  say-more w more all = moved (Act.say w (rw e more) (rw e all)) (ap (λ u. with-says u w) e) (λ c m. m)
+  say-more w more all = moved (Act.to-say w (rw e more) (rw e all)) (ap (λ u. with-says u w) e) (λ c m. m)
 
   -- A hub comes to hold something at one place.
   pub turn : (p : ℕ) (x : Seen C) → Turn M H h v p x → Move M H h (with-holds v (put (v .holds) p x))
   turn p x (keep q) = stay (e ∙ same-holds v (put-cases (λ k y. v .holds k ≡ y) (v .holds) p x (sym q) (λ k ne. refl)))
-  turn p x (take c q m) = rw q (moved (Act.take is (rw e m)) (ap (λ u. with-vote u p c) e) (unasked tt))
+  turn p x (take c q m) = rw q (moved (Act.to-take is (rw e m)) (ap (λ u. with-vote u p c) e) (unasked tt))
   turn p x (make c Q seen q l pick un) =
       rw q
-      (moved (Act.make Q seen is (rw e l) pick (rw e un)) (ap (λ u. with-vote u p c) e) (λ d m. unasked tt d (unasked tt d m)))
+      (moved (Act.to-make Q seen is (rw e l) pick (rw e un)) (ap (λ u. with-vote u p c) e) (λ d m. unasked tt d (unasked tt d m)))
 
 -- After actions of the hub, in which it kept its term and what it holds at a place, the same turns are open to it there.
 turn-on :
@@ -137,7 +137,7 @@ module _ {C : Type 0} {M : Machine C} {H : Hall C} (ok : Faithful M H) {h : ℕ}
   unfolding hand
   answer t l lt =
       let up : H .view h .term < t = omega (arith, ap (λ u. u .term) e) in
-      let a : Act M H (turned H (raised h t ∷ H .past) h (with-term (H .view h) t)) = Act.raise is up in
+      let a : Act M H (turned H (raised h t ∷ H .past) h (with-term (H .view h) t)) = Act.to-raise is up in
       let x : Move M H h (with-term v t) = moved a (ap (λ u. with-term u t) e) (unasked tt) in
       let (y, given) =
       hand is (put-same (H .view) h _ ∙ ap (λ u. with-term u t) e) l

@@ -53,7 +53,7 @@ abbrev asked-hall : Hall ℕ
 asked-hall = asking (yields .0 .hall) 7
 
 faithful₂ : Faithful trio asked-hall
-faithful₂ = act-faithful (acts-faithful faithful₁ (yields .0 .acts)) Act.ask
+faithful₂ = act-faithful (acts-faithful faithful₁ (yields .0 .acts)) Act.to-ask
 
 -- What is held after a vote at the ballot b for 7 at place 1.
 pub seven : ℕ → ℕ → Seen ℕ

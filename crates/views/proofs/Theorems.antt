@@ -17,7 +17,7 @@ use Rattle.paxos.proofs.Theorems.{agree-later, valid}
 use Rattle.paxos.proofs.Safe.{voted-proposed, told}
 use Rattle.views.specs.Hall.{View, gave, Hall, first, Leads, Says}
 use Rattle.views.specs.Faithful.{Faithful}
-use Rattle.views.specs.Acts.{Act, ask, raise, give, make, take, say, Acts, done, next}
+use Rattle.views.specs.Acts.{Act, to-ask, to-raise, to-give, to-make, to-take, to-say, Acts, no-act, then-act}
 pub use Rattle.views.proofs.FaithfulLaws.{one-leader}
 use Rattle.views.proofs.FaithfulLaws.{leader-holds, act-steps, act-faithful}
 
@@ -27,7 +27,7 @@ use Rattle.views.proofs.FaithfulLaws.{leader-holds, act-steps, act-fait
 pub first-faithful : {C : Type 0} (M : Machine C) → Faithful M first
 first-faithful M =
     record {
-      run = Steps.done;
+      run = Steps.no-step;
       hubs =
           λ h.
           record {
@@ -51,48 +51,48 @@ turned-says H g v p own = put-cases (λ k w. H .view k .says p ≡ true → w .s
 module _ {C : Type 0} {M : Machine C} where
   -- Actions after actions are actions.
   pub acts-trans : {H I J : Hall C} → Acts M H I → Acts M I J → Acts M H J
-  acts-trans a done = a
-  acts-trans a (next b k) = next (acts-trans a b) k
+  acts-trans a no-act = a
+  acts-trans a (then-act b k) = then-act (acts-trans a b) k
 
   -- After any actions the hall is faithful again.
   pub acts-faithful : {H J : Hall C} → Faithful M H → Acts M H J → Faithful M J
-  acts-faithful ok done = ok
-  acts-faithful ok (next a k) = act-faithful (acts-faithful ok a) k
+  acts-faithful ok no-act = ok
+  acts-faithful ok (then-act a k) = act-faithful (acts-faithful ok a) k
 
   -- Behind any actions the machine takes zero or more steps.
   pub acts-steps : {H J : Hall C} → Faithful M H → Acts M H J → Steps M (H .past) (J .past)
-  acts-steps ok done = Steps.done
-  acts-steps ok (next a k) = steps-trans (acts-steps ok a) (act-steps (acts-faithful ok a) k)
+  acts-steps ok no-act = Steps.no-step
+  acts-steps ok (then-act a k) = steps-trans (acts-steps ok a) (act-steps (acts-faithful ok a) k)
 
   -- Nothing is lost of the machine's history.
   pub acts-keep : {H J : Hall C} → Faithful M H → Acts M H J → H .past ⊆ J .past
   acts-keep ok a = steps-keep (acts-steps ok a)
 
   act-gifts : {H J : Hall C} → Act M H J → H .gifts ⊆ J .gifts
-  act-gifts ask g m = m
-  act-gifts (raise is lt) g m = m
-  act-gifts (give is un) g m = there m
-  act-gifts (make Q seen is l pick un) g m = m
-  act-gifts (take is n) g m = m
-  act-gifts (say w more all) g m = m
+  act-gifts to-ask g m = m
+  act-gifts (to-raise is lt) g m = m
+  act-gifts (to-give is un) g m = there m
+  act-gifts (to-make Q seen is l pick un) g m = m
+  act-gifts (to-take is n) g m = m
+  act-gifts (to-say w more all) g m = m
 
   -- What was given stays given.
   pub acts-gifts : {H J : Hall C} → Acts M H J → H .gifts ⊆ J .gifts
-  acts-gifts done g m = m
-  acts-gifts (next a k) g m = act-gifts k g (acts-gifts a g m)
+  acts-gifts no-act g m = m
+  acts-gifts (then-act a k) g m = act-gifts k g (acts-gifts a g m)
 
   act-says : {H J : Hall C} → Act M H J → (h p : ℕ) → H .view h .says p ≡ true → J .view h .says p ≡ true
-  act-says ask h p e = e
-  act-says {H} (raise is lt) h p e = turned-says H _ _ p (λ e. e) h e
-  act-says (give is un) h p e = e
-  act-says {H} (make Q seen is l pick un) h p e = turned-says H _ _ p (λ e. e) h e
-  act-says {H} (take is n) h p e = turned-says H _ _ p (λ e. e) h e
-  act-says {H} (say w more all) h p e = turned-says H _ _ p (more p) h e
+  act-says to-ask h p e = e
+  act-says {H} (to-raise is lt) h p e = turned-says H _ _ p (λ e. e) h e
+  act-says (to-give is un) h p e = e
+  act-says {H} (to-make Q seen is l pick un) h p e = turned-says H _ _ p (λ e. e) h e
+  act-says {H} (to-take is n) h p e = turned-says H _ _ p (λ e. e) h e
+  act-says {H} (to-say w more all) h p e = turned-says H _ _ p (more p) h e
 
   -- A place that a hub reports it goes on reporting.
   acts-says : {H J : Hall C} → Acts M H J → (h p : ℕ) → H .view h .says p ≡ true → J .view h .says p ≡ true
-  acts-says done h p e = e
-  acts-says (next a k) h p e = act-says k h p (acts-says a h p e)
+  acts-says no-act h p e = e
+  acts-says (then-act a k) h p e = act-says k h p (acts-says a h p e)
 
 -- ---- what is held, and what is reported
 

@@ -15,13 +15,13 @@ use Rattle.views.specs.Faithful.{Known}
 -- One action.
 pub data Act {C : Type 0} (M : Machine C) (H : Hall C) : Hall C → Type 0 where
   -- A client asks for a command.
-  ask : {c : C} → Act M H (asking H c)
+  to-ask : {c : C} → Act M H (asking H c)
   -- A hub raises its term.
-  raise : {h t : ℕ} → IsHub (M .size) h → H .view h .term < t → Act M H (turned H (raised h t ∷ H .past) h (with-term (H .view h) t))
+  to-raise : {h t : ℕ} → IsHub (M .size) h → H .view h .term < t → Act M H (turned H (raised h t ∷ H .past) h (with-term (H .view h) t))
   -- A hub gives its report at its term to hub l: once.
-  give : {h l : ℕ} → IsHub (M .size) h → Ungiven (H .gifts) h (H .view h .term) → Act M H (giving H h l)
+  to-give : {h l : ℕ} → IsHub (M .size) h → Ungiven (H .gifts) h (H .view h .term) → Act M H (giving H h l)
   -- The leader of its term, which holds nothing of that term at the place, proposes what the reports allow and votes for it.
-  make :
+  to-make :
       {h p : ℕ} {c : C} (Q : ℕ → Bool) (seen : ℕ → ℕ → Seen C) → IsHub (M .size) h
       → Leads M (H .gifts) (H .view h .term) h Q seen
       → Pick M (H .past) Q (λ g. seen g p) c
@@ -29,11 +29,11 @@ pub data Act {C : Type 0} (M : Machine C) (H : Hall C) : Hall C → Type 0 where
       → Act M H
       (turned H (voted h (H .view h .term) p c ∷ (proposed (H .view h .term) p c ∷ H .past)) h (with-vote (H .view h) p c))
   -- A hub takes what is proposed at its term: it votes for it.
-  take :
+  to-take :
       {h p : ℕ} {c : C} → IsHub (M .size) h → proposed (H .view h .term) p c ∈ H .past
       → Act M H (turned H (voted h (H .view h .term) p c ∷ H .past) h (with-vote (H .view h) p c))
   -- A hub reports more places as chosen, where what it holds is settled.
-  say :
+  to-say :
       {h : ℕ} (w : ℕ → Bool)
       → ((p : ℕ) → H .view h .says p ≡ true → w p ≡ true)
       → ((p : ℕ) → w p ≡ true → (H .view h .says p ≡ true) ⊎ Known M (H .past) (H .view h .term) p (H .view h .holds p))
@@ -41,5 +41,5 @@ pub data Act {C : Type 0} (M : Machine C) (H : Hall C) : Hall C → Type 0 where
 
 -- Zero or more actions, one after the other.
 pub data Acts {C : Type 0} (M : Machine C) (H : Hall C) : Hall C → Type 0 where
-  done : Acts M H H
-  next : {I J : Hall C} → Acts M H I → Act M I J → Acts M H J
+  no-act : Acts M H H
+  then-act : {I J : Hall C} → Acts M H I → Act M I J → Acts M H J
