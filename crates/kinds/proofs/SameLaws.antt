@@ -19,7 +19,7 @@ same-is (x ∷ xs) (y ∷ ys) h =
     let t = same-is xs ys (and-second (eqb x y) (same xs ys) h) in
     cc
 
-same-self : (xs : List ℕ) → same xs xs ≡ true
+pub same-self : (xs : List ℕ) → same xs xs ≡ true
 unfolding same
 same-self [] = refl
 same-self (x ∷ xs) = and-both (eq-eqb x x refl) (same-self xs)

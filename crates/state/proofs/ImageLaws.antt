@@ -30,6 +30,7 @@ use Rattle.rows.proofs.RowLaws.{rowFits, row-number, row-part-command, rowsIn-b
 use Rattle.state.proofs.TableLaws.{pairs-back, table-length, table-row}
 use Rattle.state.proofs.LegalLaws.{Held, legal-held, all-member, all-append}
 use Rattle.kinds.specs.Same.{same}
+use Rattle.kinds.proofs.SameLaws.{same-is, same-self, is-same}
 
 -- ---- the parts of an image
 
