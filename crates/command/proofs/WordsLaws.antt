@@ -250,11 +250,6 @@ toZ-signed x =
     let e : 4_294_967_296 - suc x ≡ 4_294_967_295 - x = omega arith in
     rw high (ap negsuc e ∙ sym (signed-high x (ltb-false _ _ high))))
 
-pub ofZ-unsigned : (d : ℤ) → ofZ w32 d ≡ unsigned d
-unfolding unsigned
-ofZ-unsigned (pos n) = refl
-ofZ-unsigned (negsuc n) = omega arith
-
 -- The code's cast of a signed number that is not below zero: it keeps the number,
 pub cast-kept : (d : ℤ) → SFits w32 d → ltZ d (pos 0) ≡ false → T (nonNeg (toZ w32 (ofZ w32 d))) × Fits w32 (natAbs (toZ w32 (ofZ w32 d)))
 cast-kept (pos n) fits h = rw (toZ-ofZ fits) (tt, fits-natAbs tt fits)

@@ -20,9 +20,6 @@ packed-one o m p n small little same = (
   sym (packed-upper o m small) ∙ ap (λ (x : ℕ). x / half) same ∙ packed-upper p n little,
 )
 
--- An outcome alone, and what goes with outcome 0.
+-- An outcome alone.
 pub packed-alone : (outcome : ℕ) → packed outcome 0 ≡ outcome
 packed-alone outcome = omega arith
-
-pub packed-done : (many : ℕ) → packed 0 many ≡ many * half
-packed-done many = omega arith

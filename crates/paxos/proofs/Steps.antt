@@ -7,10 +7,6 @@ use Rattle.paxos.specs.Paxos.{Machine, Happening, History, there, _⊆_,
 use Rattle.paxos.proofs.PutLaws.{put-cases}
 
 module _ {C : Type 0} {M : Machine C} where
-  -- From a history to itself there are no steps to take.
-  pub steps-refl : (s : History C) → Steps M s s
-  steps-refl s = no-step
-
   -- One step.
   pub steps-one : {s : History C} {e : Happening C} → Can M s e → Steps M s (e ∷ s)
   steps-one k = then-step no-step k

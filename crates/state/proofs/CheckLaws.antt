@@ -382,17 +382,6 @@ unfolding isSome
 holds-if true x h = refl
 holds-if false x h = absurd (false≢true h)
 
--- Bytes that pass are read as the state that they say.
-pub state-passed : (w : Who) (l : List ℕ) → isSome (readState w l) ≡ true → readState w l ≡ some (stateIn l)
-unfolding readState
-state-passed w l h =
-    holds-if (eqb (length l) state-size && (same (image (stateIn l)) l && legalState w (stateIn l))) (stateIn l) h
-
--- Bytes whose kept parts pass are read as those.
-pub kept-passed : (l : List ℕ) → isSome (readKept l) ≡ true → readKept l ≡ some (keptIn l)
-unfolding readKept
-kept-passed l h = holds-if (eqb (length l) state-size && legalKept (keptIn l)) (keptIn l) h
-
 -- ---- the kept parts
 
 -- A state's bytes hold at least a head.

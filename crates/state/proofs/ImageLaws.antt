@@ -71,32 +71,9 @@ module _ (s : State) (h : Held s) where
   pub image-table : (at : ℕ) → drop (head-size + at) (image s) ≡ drop at (table (rowsOf s))
   image-table at = rw (image-is s) (drop-behind head-size at (bytesOfHead (headOf (s .kept) (s .lost))) (table (rowsOf s)) head-long)
 
-  -- Where row i stands, and what stands behind it.
-  pub image-row : (i : ℕ) (d : Row) →
-      i < length (rowsOf s) →
-      drop (head-size + i * row-size) (image s) ≡ rowBytes (getD (rowsOf s) i d) ++ drop (head-size + (i + 1) * row-size) (image s)
-  image-row i d l = rw (image-table (i * row-size), image-table ((i + 1) * row-size)) (table-row (rowsOf s) i d l)
-
   rows-fit : all rowFits (rowsOf s) ≡ true
   unfolding rowsOf
   rows-fit = all-append rowFits (map entryRow (s .kept .log)) (map pairRow (gatheredOf (s .lost))) (h .entries) (h .pairs)
-
-  -- The number of row i: an entry's term or a gathered pair's ballot.
-  pub image-number : (i : ℕ) (d : Row) →
-      i < length (rowsOf s) →
-      wordAt (head-size + i * row-size) 4 (image s) ≡ getD (rowsOf s) i d .number
-  image-number i d l =
-      let at = head-size + i * row-size in
-      let there : wordAt at 4 (image s) ≡ wordAt 0 4 (drop at (image s)) = rw (wordAt-drop 0 4 at (image s), add-zero) in
-      there ∙ rw (image-row i d l) (row-number (getD (rowsOf s) i d) _ (all-member rowFits (rowsOf s) i d l rows-fit))
-
-  -- The command's bytes of row i.
-  pub image-command : (i : ℕ) (d : Row) →
-      i < length (rowsOf s) →
-      part (head-size + i * row-size + 4) command-size (image s) ≡ commandBytes (getD (rowsOf s) i d .command)
-  image-command i d l =
-      let at = head-size + i * row-size in
-      sym (part-drop 4 command-size at (image s)) ∙ rw (image-row i d l) (row-part-command (getD (rowsOf s) i d) _)
 
   entry-bytes : List ℕ
   entry-bytes = bytesOf rowBytes (map entryRow (s .kept .log))

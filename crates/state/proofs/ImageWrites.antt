@@ -98,17 +98,6 @@ module _ (s t : State) (h : Held s) (g : Held t) where
       image-written (i * row-size) (bytesOf rowBytes new) (omega (arith, rows-length new))
       (table-put (rowsOf s) i inside (h .room) new fits ∙ ap table (sym e))
 
-  -- Rows join at the end.
-  pub image-grown : (new : List Row) →
-      rowsOf t ≡ rowsOf s ++ new →
-      sets (sets (image s) (head-size + length (rowsOf s) * row-size) (bytesOf rowBytes new)) 0 (bytesOfHead (headOf (t .kept) (t .lost))) ≡ image t
-  image-grown new e =
-      let n = length (rowsOf s) in
-      let long = length-append (rowsOf s) new in
-      let none = drop-of-length-le (rowsOf s) {i = n + length new} (omega arith) in
-      let room : n + length new ≤ limit = omega (arith, ap length e, g .room) in
-      image-put n new (omega arith) room (rw (none, take-length (rowsOf s), append-nil new) e)
-
   -- The rows from row i on are cleared.
   pub image-clear : (i k : ℕ) →
       i ≤ length (rowsOf s) →
@@ -121,11 +110,6 @@ module _ (s t : State) (h : Held s) (g : Held t) where
       (table-clear (rowsOf s) i inside (h .room) k all fits ∙ ap table (sym e))
 
 -- ---- a restart
-
--- Legal kept parts make a legal follower.
-pub legal-follower : (w : Who) (k : Kept) → legalKept k ≡ true → legalState w (record { kept = k; lost = follower }) ≡ true
-unfolding legalState legalLost
-legal-follower w k h = and-both h refl
 
 -- The rows of the log that bytes hold are those bytes.
 log-bytes : (l : List ℕ) →
