@@ -3,4 +3,3 @@ pub mod PromiseLaws
 pub mod HeadsLaws
 pub mod LostLaws
 pub mod AppendLaws
-pub mod StepLaws

@@ -25,7 +25,6 @@ use Rattle.rules.specs.Theorems.{SaysLegal}
 use Rattle.promise.specs.Promise.{Answers, leftBy, Gives}
 use Rattle.promise.proofs.PromiseLaws.{ready-legal, ready-who, gives-answers}
 use Rattle.promise.specs.Gate.{gate}
-use Rattle.promise.proofs.StepLaws.{step-receive}
 use Rattle.say.specs.Said.{Answering}
 use Rattle.refuse.specs.Received.{bodyIn, messageHeard}
 use Rattle.obey.specs.Obeyed.{Receives}
@@ -87,17 +86,3 @@ module _ (w : Who) (l : List ℕ) (f : Fields) (lines out : List ℕ) (g : Recei
     unfolding heard
     read-gives input is n= =
         rw is (record { returned = n= ∙ rw (c .outcome, c .bytes); state-left = c .state-left; output-left = c .output-left })
-
--- The same, over the call.
-heard-answers :
-    (c : Call) (s : State) (m : Option Message) {r : ℕ} {l out : List ℕ} → Gives (heard (c .who) s m) (c .state) (c .output) r l out
-    → Answers (receiving c s m) r l out
-unfolding heard receiving refusal leftBy written over
-heard-answers c s none g = record { returned = omega (arith, g .returned); state-left = g .state-left; output-left = g .output-left }
-heard-answers c s (some m) g = gives-answers c (receive (c .who) s m) g
-
--- What a received text gives is the step's answer to the call, where the gate is open.
-pub step-heard :
-    (c : Call) → gate (c .who) (c .event) (c .state) (c .output) ≡ done → c .event ≡ receive-number → {r : ℕ} {l out : List ℕ}
-    → Gives (heard (c .who) (stateIn (c .state)) (read (c .input))) (c .state) (c .output) r l out → Answers (stepOf c) r l out
-step-heard c h e g = rw (step-receive c h e) (heard-answers c (stateIn (c .state)) (read (c .input)) g)

@@ -3,9 +3,6 @@ ghost use mathlib.Core.Path.{_≡_};
 ghost use Rattle.rules.specs.Report.{IsReport, reportOf, chosenOf};
 use kinds::Place;
 
-// The bytes of a command.
-const COMMAND: usize = 16;
-
 // The command that a hub reports at a place: its 16 bytes at the start of `out`. A refusal (2: kept parts not legal; 3: too little room; 12: the place is not in
 // 1..chosen) leaves every byte.
 pub fn reported_at(state: &[u8], place: u32, out: &mut [u8]) -> u32
@@ -14,7 +11,7 @@ pub fn reported_at(state: &[u8], place: u32, out: &mut [u8]) -> u32
     if !legal::is_kept_legal(state) {
         return kinds::BAD_STATE;
     }
-    if out.len() < COMMAND {
+    if out.len() < command::SIZE {
         return kinds::SHORT_OUTPUT;
     }
     if place == 0 {

@@ -4,8 +4,7 @@ use native.Mathlib.Omega.{arith}
 use mathlib.Core.List.{[]}
 use borrow.Author.Needs.{needs}
 use Rattle.promise.specs.Promise.{call}
-use Rattle.promise.proofs.StepLaws.{step-refused, step-ready, step-kept, step-room, step-fifth, step-start, step-propose, step-send, step-restart}
-use Rattle.receive.proofs.OutcomeLaws.{step-heard}
+use Rattle.step.proofs.StepLaws.{step-refused, step-ready, step-kept, step-room, step-fifth, step-start, step-propose, step-send, step-restart, step-heard}
 use Rattle.step.proofs.EdgeLaws.{gate-open, send-numbers}
 use Rattle.step.proofs.take_step.Statement.{statement}
 use Rattle.step.proofs.take_step.Tie as tie

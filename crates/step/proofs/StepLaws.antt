@@ -18,11 +18,15 @@ use Rattle.state.specs.Check.{isSome}
 use Rattle.kinds.proofs.BoolLaws.{and-first, and-second}
 use Rattle.rules.specs.Outcome.{done, not-known, bad-state, short-output}
 use Rattle.rules.specs.Events.{start, propose, send, restart}
-use Rattle.rules.specs.Step.{Call, Event, start-event, propose-event, send-event, restart-event, receive-event, eventOf, refusal, receiving, acting, keptAlone, seenBy, atState, atEvent, stepOf}
-use Rattle.promise.specs.Promise.{Answers, Ready, Gives, Quiet}
+use Rattle.rules.specs.Step.{Call, Event, start-event, propose-event, send-event, restart-event, receive-event, eventOf, refusal, receiving, acting, keptAlone, seenBy, atState, atEvent, stepOf, written, over}
+use Rattle.promise.specs.Promise.{Answers, Ready, Gives, Quiet, leftBy}
 use Rattle.promise.specs.Gate.{isKnown, isFit, gate}
 use Rattle.promise.proofs.GateLaws.{none-when, readState-some, readKept-some, fit-restart, fit-other}
 use Rattle.promise.proofs.PromiseLaws.{done-quiet, gives-answers, quiet-answers}
+use Rattle.receive.specs.Heard.{heard}
+use Rattle.kinds.specs.Event.{receive-number}
+use Rattle.rules.specs.Receive.{receive}
+use Rattle.message.specs.Message.{Message}
 
 -- ---- the events' numbers
 
@@ -216,3 +220,19 @@ module _ (c : Call) where
     step-receive e =
         let ready = step-ready (λ f. omega arith) in
         acts receive-event (stateIn (c .state)) (rw e) (ready .held)
+
+-- ---- a received text
+
+-- The same, over the call.
+heard-answers :
+    (c : Call) (s : State) (m : Option Message) {r : ℕ} {l out : List ℕ} → Gives (heard (c .who) s m) (c .state) (c .output) r l out
+    → Answers (receiving c s m) r l out
+unfolding heard receiving refusal leftBy written over
+heard-answers c s none g = record { returned = omega (arith, g .returned); state-left = g .state-left; output-left = g .output-left }
+heard-answers c s (some m) g = gives-answers c (receive (c .who) s m) g
+
+-- What a received text gives is the step's answer to the call, where the gate is open.
+pub step-heard :
+    (c : Call) → gate (c .who) (c .event) (c .state) (c .output) ≡ done → c .event ≡ receive-number → {r : ℕ} {l out : List ℕ}
+    → Gives (heard (c .who) (stateIn (c .state)) (read (c .input))) (c .state) (c .output) r l out → Answers (stepOf c) r l out
+step-heard c h e g = rw (step-receive c h e) (heard-answers c (stateIn (c .state)) (read (c .input)) g)
