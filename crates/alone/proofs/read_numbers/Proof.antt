@@ -33,16 +33,5 @@ put c =
 
 pub read-numbers-spec : {M : Type 1} → statement M
 read-numbers-spec =
-    tie.close
-    (tie.spec
-    (λ c. search needs)
-    short
-    (λ c κs. search needs)
-    (λ c. search needs)
-    (λ c. search needs)
-    (λ c. search needs)
-    refused
-    (λ c κs. search needs)
-    small
-    (λ c. search needs)
-    put)
+    let first = tie.spec (λ c. search needs) short (λ c κs. search needs) (λ c. search needs) (λ c. search needs) (λ c. search needs) refused in
+    tie.close (first (λ c κs. search needs) small (λ c. search needs) put)

@@ -63,16 +63,5 @@ put c =
 
 pub write-message-spec : {M : Type 1} → statement M
 write-message-spec =
-    tie.close
-    (tie.spec
-    (λ c κs. search needs)
-    short
-    (λ c κs. search needs)
-    (λ c. search needs)
-    (λ c. search needs)
-    unheld
-    held
-    illegal
-    puts
-    (λ c. search needs)
-    put)
+    let first = tie.spec (λ c κs. search needs) short (λ c κs. search needs) (λ c. search needs) (λ c. search needs) unheld held illegal puts in
+    tie.close (first (λ c. search needs) put)

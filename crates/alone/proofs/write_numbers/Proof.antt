@@ -91,27 +91,7 @@ told-illegal c =
 
 pub write-numbers-spec : {M : Type 1} → statement M
 write-numbers-spec =
-    tie.close
-    (tie.spec
-    (λ c κs. search needs)
-    (λ c. search needs)
-    short
-    (λ c. search needs)
-    not-eight
-    (λ c κs. search needs)
-    (λ c κs. search needs)
-    (λ c. search needs)
-    others
-    (λ c κs. search needs)
-    (λ c. search needs)
-    small
-    (λ c. search needs)
-    (λ c. search needs)
-    (λ c. search needs)
-    (λ c. search needs)
-    (λ c. search needs)
-    wrote
-    (λ c. search needs)
-    told-short
-    (λ c. search needs)
-    told-illegal)
+    let first = tie.spec (λ c κs. search needs) (λ c. search needs) short (λ c. search needs) not-eight (λ c κs. search needs) (λ c κs. search needs) in
+    let second = first (λ c. search needs) others (λ c κs. search needs) (λ c. search needs) small (λ c. search needs) (λ c. search needs) in
+    let third = second (λ c. search needs) (λ c. search needs) (λ c. search needs) wrote (λ c. search needs) told-short (λ c. search needs) in
+    tie.close (third told-illegal)

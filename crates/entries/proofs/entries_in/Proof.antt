@@ -42,17 +42,5 @@ done c = walking-done (c .before .loop .inv) (λ m. omega arith)
 
 pub entries-in-spec : {M : Type 1} → statement M
 entries-in-spec =
-    tie.close
-    (tie.spec
-    Inv-loop
-    μ-loop
-    begins
-    (λ c κs. search needs)
-    (λ c. search needs)
-    (λ c. search needs)
-    stuck
-    (λ c κs. search needs)
-    (λ c. search needs)
-    (λ c. search needs)
-    again
-    done)
+    let begun = tie.spec Inv-loop μ-loop begins (λ c κs. search needs) (λ c. search needs) (λ c. search needs) stuck (λ c κs. search needs) in
+    tie.close (begun (λ c. search needs) (λ c. search needs) again done)

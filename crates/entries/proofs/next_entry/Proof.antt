@@ -78,26 +78,6 @@ is c =
 
 pub next-entry-spec : {M : Type 1} → statement M
 next-entry-spec =
-    tie.close
-    (tie.spec
-    past
-    (λ c. search needs)
-    (λ c κs. search needs)
-    (λ c. search needs)
-    (λ c. search needs)
-    no-key
-    (λ c κs. search needs)
-    (λ c. search needs)
-    (λ c. search needs)
-    no-term
-    (λ c κs. search needs)
-    (λ c. search needs)
-    (λ c. search needs)
-    no-words
-    (λ c. search needs)
-    inside
-    (λ c. search needs)
-    (λ c. search needs)
-    no-end
-    (λ c κs. search needs)
-    is)
+    let first = tie.spec past (λ c. search needs) (λ c κs. search needs) (λ c. search needs) (λ c. search needs) no-key (λ c κs. search needs) in
+    let second = first (λ c. search needs) (λ c. search needs) no-term (λ c κs. search needs) (λ c. search needs) (λ c. search needs) no-words in
+    tie.close (second (λ c. search needs) inside (λ c. search needs) (λ c. search needs) no-end (λ c κs. search needs) is)

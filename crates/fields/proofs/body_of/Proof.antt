@@ -57,20 +57,6 @@ append-no-body c =
 
 pub body-of-spec : {M : Type 1} → statement M
 body-of-spec =
-    tie.close
-    (tie.spec
-    (λ c κs. search needs)
-    (λ c κs. search needs)
-    (λ c κs. search needs)
-    (λ c. search needs)
-    (λ c. search needs)
-    (λ c. search needs)
-    (λ c. search needs)
-    (λ c. search needs)
-    (λ c. search needs)
-    request
-    yes
-    (λ c. search needs)
-    append-body
-    append-yes-body
-    append-no-body)
+    let begun = tie.spec (λ c κs. search needs) (λ c κs. search needs) (λ c κs. search needs) (λ c. search needs) (λ c. search needs) in
+    let further = begun (λ c. search needs) (λ c. search needs) (λ c. search needs) (λ c. search needs) request yes (λ c. search needs) append-body in
+    tie.close (further append-yes-body append-no-body)

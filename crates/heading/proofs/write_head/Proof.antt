@@ -32,15 +32,5 @@ all c =
 
 pub write-head-spec : {M : Type 1} → statement M
 write-head-spec =
-    tie.close
-    (tie.spec
-    (λ c. search needs)
-    (λ c κs. search needs)
-    (λ c. search needs)
-    (λ c κs. search needs)
-    two
-    (λ c. search needs)
-    (λ c κs. search needs)
-    one
-    (λ c. search needs)
-    all)
+    let first = tie.spec (λ c. search needs) (λ c κs. search needs) (λ c. search needs) (λ c κs. search needs) two (λ c. search needs) in
+    tie.close (first (λ c κs. search needs) one (λ c. search needs) all)

@@ -74,35 +74,7 @@ append-no c = wrote-as (ap typeText (c .before .before .before .before .before .
 
 pub write-type-spec : {M : Type 1} → statement M
 write-type-spec =
-    tie.close
-    (tie.spec
-    (λ c. search needs)
-    (λ c. search needs)
-    request-room
-    (λ c. search needs)
-    (λ c. search needs)
-    yes-room
-    (λ c. search needs)
-    (λ c. search needs)
-    no-room
-    (λ c. search needs)
-    (λ c. search needs)
-    append-room
-    (λ c. search needs)
-    (λ c. search needs)
-    append-yes-room
-    (λ c. search needs)
-    (λ c. search needs)
-    append-no-room
-    (λ c. search needs)
-    request
-    (λ c. search needs)
-    yes
-    (λ c. search needs)
-    no
-    (λ c. search needs)
-    append
-    (λ c. search needs)
-    append-yes
-    (λ c. search needs)
-    append-no)
+    let first = tie.spec (λ c. search needs) (λ c. search needs) request-room (λ c. search needs) (λ c. search needs) yes-room (λ c. search needs) in
+    let second = first (λ c. search needs) no-room (λ c. search needs) (λ c. search needs) append-room (λ c. search needs) (λ c. search needs) in
+    let third = second append-yes-room (λ c. search needs) (λ c. search needs) append-no-room (λ c. search needs) request (λ c. search needs) yes in
+    tie.close (third (λ c. search needs) no (λ c. search needs) append (λ c. search needs) append-yes (λ c. search needs) append-no)

@@ -26,17 +26,5 @@ all c = search (needs, filled-all)
 
 pub hex-table-spec : {M : Type 1} → statement M
 hex-table-spec =
-    tie.close
-    (tie.spec
-    Inv-loop
-    μ-loop
-    none
-    (λ c κs. search needs)
-    (λ c κs. search needs)
-    (λ c. search needs)
-    (λ c. search needs)
-    (λ c. search needs)
-    (λ c. search needs)
-    (λ c. search needs)
-    more
-    all)
+    let first = tie.spec Inv-loop μ-loop none (λ c κs. search needs) (λ c κs. search needs) (λ c. search needs) (λ c. search needs) in
+    tie.close (first (λ c. search needs) (λ c. search needs) (λ c. search needs) more all)

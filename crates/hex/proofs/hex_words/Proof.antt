@@ -34,29 +34,7 @@ all c = search (needs, words-all)
 
 pub hex-words-spec : {M : Type 1} → statement M
 hex-words-spec =
-    tie.close
-    (tie.spec
-    past
-    (λ c. search needs)
-    few
-    (λ c κs. search needs)
-    (λ c. search needs)
-    (λ c. search needs)
-    first
-    (λ c. search needs)
-    (λ c κs. search needs)
-    (λ c. search needs)
-    (λ c. search needs)
-    second
-    (λ c. search needs)
-    (λ c κs. search needs)
-    (λ c. search needs)
-    (λ c. search needs)
-    third
-    (λ c. search needs)
-    (λ c κs. search needs)
-    (λ c. search needs)
-    (λ c. search needs)
-    fourth
-    (λ c. search needs)
-    all)
+    let begun = tie.spec past (λ c. search needs) few (λ c κs. search needs) (λ c. search needs) (λ c. search needs) first (λ c. search needs) in
+    let further = begun (λ c κs. search needs) (λ c. search needs) (λ c. search needs) second (λ c. search needs) (λ c κs. search needs) in
+    let longer = further (λ c. search needs) (λ c. search needs) third (λ c. search needs) (λ c κs. search needs) (λ c. search needs) in
+    tie.close (longer (λ c. search needs) fourth (λ c. search needs) all)

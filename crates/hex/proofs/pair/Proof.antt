@@ -11,13 +11,5 @@ made c = search needs
 
 pub pair-spec : {M : Type 1} → statement M
 pair-spec =
-    tie.close
-    (tie.spec
-    (λ c. search needs)
-    (λ c κs. search needs)
-    (λ c. search needs)
-    (λ c. search needs)
-    (λ c. search needs)
-    (λ c κs. search needs)
-    (λ c. search needs)
-    made)
+    let first = tie.spec (λ c. search needs) (λ c κs. search needs) (λ c. search needs) (λ c. search needs) (λ c. search needs) in
+    tie.close (first (λ c κs. search needs) (λ c. search needs) made)

@@ -45,20 +45,5 @@ done c = search (needs, hex-done)
 
 pub write-hex-spec : {M : Type 1} → statement M
 write-hex-spec =
-    tie.close
-    (tie.spec
-    Inv-loop
-    μ-loop
-    none
-    (λ c. search needs)
-    high
-    (λ c. search needs)
-    (λ c κs. search needs)
-    (λ c. search needs)
-    room
-    (λ c. search needs)
-    (λ c. search needs)
-    (λ c. search needs)
-    again
-    (λ c. search needs)
-    done)
+    let begun = tie.spec Inv-loop μ-loop none (λ c. search needs) high (λ c. search needs) (λ c κs. search needs) (λ c. search needs) room in
+    tie.close (begun (λ c. search needs) (λ c. search needs) (λ c. search needs) again (λ c. search needs) done)

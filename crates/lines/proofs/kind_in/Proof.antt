@@ -157,36 +157,8 @@ none c = type-never (start-6 c .args .s .now) (start-6 c .args .at) (not-append-
 
 pub kind-in-spec : {M : Type 1} → statement M
 kind-in-spec =
-    tie.close
-    (tie.spec
-    (λ c. search needs)
-    (λ c κs. search needs)
-    (λ c. search needs)
-    request
-    (λ c. search needs)
-    (λ c. search needs)
-    (λ c κs. search needs)
-    (λ c. search needs)
-    yes
-    (λ c. search needs)
-    (λ c. search needs)
-    (λ c κs. search needs)
-    (λ c. search needs)
-    no
-    (λ c. search needs)
-    (λ c. search needs)
-    (λ c κs. search needs)
-    (λ c. search needs)
-    append-here
-    (λ c. search needs)
-    (λ c. search needs)
-    (λ c κs. search needs)
-    (λ c. search needs)
-    append-yes-here
-    (λ c. search needs)
-    (λ c. search needs)
-    (λ c κs. search needs)
-    (λ c. search needs)
-    append-no-here
-    (λ c. search needs)
-    none)
+    let first = tie.spec (λ c. search needs) (λ c κs. search needs) (λ c. search needs) request (λ c. search needs) (λ c. search needs) in
+    let second = first (λ c κs. search needs) (λ c. search needs) yes (λ c. search needs) (λ c. search needs) (λ c κs. search needs) in
+    let third = second (λ c. search needs) no (λ c. search needs) (λ c. search needs) (λ c κs. search needs) (λ c. search needs) append-here in
+    let fourth = third (λ c. search needs) (λ c. search needs) (λ c κs. search needs) (λ c. search needs) append-yes-here (λ c. search needs) in
+    tie.close (fourth (λ c. search needs) (λ c κs. search needs) (λ c. search needs) append-no-here (λ c. search needs) none)

@@ -52,22 +52,6 @@ done c = reading-done (c .before .loop .inv .2) (λ m. omega arith)
 
 pub lines-in-spec : {M : Type 1} → statement M
 lines-in-spec =
-    tie.close
-    (tie.spec
-    Inv-loop
-    μ-loop
-    (λ c κs. search needs)
-    begins
-    (λ c κs. search needs)
-    (λ c κs. search needs)
-    (λ c. search needs)
-    (λ c. search needs)
-    stuck
-    (λ c κs. search needs)
-    (λ c. search needs)
-    (λ c. search needs)
-    (λ c. search needs)
-    (λ c κs. search needs)
-    (λ c. search needs)
-    again
-    done)
+    let begun = tie.spec Inv-loop μ-loop (λ c κs. search needs) begins (λ c κs. search needs) (λ c κs. search needs) (λ c. search needs) in
+    let further = begun (λ c. search needs) stuck (λ c κs. search needs) (λ c. search needs) (λ c. search needs) (λ c. search needs) in
+    tie.close (further (λ c κs. search needs) (λ c. search needs) again done)

@@ -45,14 +45,5 @@ all c =
 
 pub opening-in-spec : {M : Type 1} → statement M
 opening-in-spec =
-    tie.close
-    (tie.spec
-    (λ c κs. search needs)
-    (λ c. search needs)
-    (λ c. search needs)
-    no-type
-    inside
-    (λ c κs. search needs)
-    few
-    (λ c κs. search needs)
-    all)
+    let first = tie.spec (λ c κs. search needs) (λ c. search needs) (λ c. search needs) no-type inside (λ c κs. search needs) few in
+    tie.close (first (λ c κs. search needs) all)

@@ -34,15 +34,5 @@ line-whole c =
 
 pub write-row-spec : {M : Type 1} → statement M
 write-row-spec =
-    tie.close
-    (tie.spec
-    (λ c κs. search needs)
-    term
-    (λ c. search needs)
-    (λ c. search needs)
-    (λ c. search needs)
-    (λ c. search needs)
-    (λ c. search needs)
-    digits
-    (λ c. search needs)
-    line-whole)
+    let first = tie.spec (λ c κs. search needs) term (λ c. search needs) (λ c. search needs) (λ c. search needs) (λ c. search needs) in
+    tie.close (first (λ c. search needs) digits (λ c. search needs) line-whole)

@@ -43,15 +43,4 @@ all c =
 
 pub write-rows-spec : {M : Type 1} → statement M
 write-rows-spec =
-    tie.close
-    (tie.spec
-    Inv-loop
-    μ-loop
-    start
-    room
-    fits
-    (λ c. search needs)
-    (λ c. search needs)
-    again
-    same
-    all)
+    tie.close (tie.spec Inv-loop μ-loop start room fits (λ c. search needs) (λ c. search needs) again same all)

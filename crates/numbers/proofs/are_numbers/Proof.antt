@@ -48,18 +48,5 @@ all c =
 
 pub are-numbers-spec : {M : Type 1} → statement M
 are-numbers-spec =
-    tie.close
-    (tie.spec
-    Inv-loop
-    μ-loop
-    (λ c κs. search needs)
-    begins
-    (λ c. search needs)
-    (λ c. search needs)
-    (λ c. search needs)
-    (λ c. search needs)
-    other
-    (λ c. search needs)
-    (λ c. search needs)
-    again
-    all)
+    let begun = tie.spec Inv-loop μ-loop (λ c κs. search needs) begins (λ c. search needs) (λ c. search needs) (λ c. search needs) in
+    tie.close (begun (λ c. search needs) other (λ c. search needs) (λ c. search needs) again all)

@@ -12,16 +12,5 @@ taken c =
 
 pub fields-with-spec : {M : Type 1} → statement M
 fields-with-spec =
-    tie.close
-    (tie.spec
-    (λ c. search needs)
-    (λ c. search needs)
-    (λ c. search needs)
-    (λ c. search needs)
-    (λ c. search needs)
-    (λ c. search needs)
-    (λ c. search needs)
-    (λ c. search needs)
-    (λ c κs. search needs)
-    (λ c κs. search needs)
-    taken)
+    let begun = tie.spec (λ c. search needs) (λ c. search needs) (λ c. search needs) (λ c. search needs) (λ c. search needs) (λ c. search needs) in
+    tie.close (begun (λ c. search needs) (λ c. search needs) (λ c κs. search needs) (λ c κs. search needs) taken)

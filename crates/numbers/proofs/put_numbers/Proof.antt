@@ -14,24 +14,8 @@ eight c =
 
 pub put-numbers-spec : {M : Type 1} → statement M
 put-numbers-spec =
-    tie.close
-    (tie.spec
-    (λ c κs. search needs)
-    (λ c. search needs)
-    (λ c. search needs)
-    (λ c. search needs)
-    (λ c. simp length-set (omega arith))
-    (λ c. search needs)
-    (λ c. simp length-set (omega arith))
-    (λ c. search needs)
-    (λ c. simp length-set (omega arith))
-    (λ c. search needs)
-    (λ c. simp length-set (omega arith))
-    (λ c. search needs)
-    (λ c. simp length-set (omega arith))
-    (λ c. search needs)
-    (λ c. simp length-set (omega arith))
-    (λ c. search needs)
-    (λ c. simp length-set (omega arith))
-    (λ c. simp length-set)
-    eight)
+    let first = tie.spec (λ c κs. search needs) (λ c. search needs) (λ c. search needs) (λ c. search needs) (λ c. simp length-set (omega arith)) in
+    let second = first (λ c. search needs) (λ c. simp length-set (omega arith)) (λ c. search needs) (λ c. simp length-set (omega arith)) in
+    let third = second (λ c. search needs) (λ c. simp length-set (omega arith)) (λ c. search needs) (λ c. simp length-set (omega arith)) in
+    let fourth = third (λ c. search needs) (λ c. simp length-set (omega arith)) (λ c. search needs) (λ c. simp length-set (omega arith)) in
+    tie.close (fourth (λ c. simp length-set) eight)

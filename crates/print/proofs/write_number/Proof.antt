@@ -48,23 +48,5 @@ done c = search (needs, tail-first)
 
 pub write-number-spec : {M : Type 1} → statement M
 write-number-spec =
-    tie.close
-    (tie.spec
-    Inv-loop
-    μ-loop
-    (λ c κs. search needs)
-    (λ c. search needs)
-    some
-    none
-    (λ c. search needs)
-    (λ c. search needs)
-    room
-    before
-    (λ c. search needs)
-    again
-    (λ c. search needs)
-    (λ c. search needs)
-    room-first
-    (λ c. search needs)
-    same
-    done)
+    let begun = tie.spec Inv-loop μ-loop (λ c κs. search needs) (λ c. search needs) some none (λ c. search needs) (λ c. search needs) room before in
+    tie.close (begun (λ c. search needs) again (λ c. search needs) (λ c. search needs) room-first (λ c. search needs) same done)

@@ -79,17 +79,5 @@ all c =
 
 pub read-message-spec : {M : Type 1} → statement M
 read-message-spec =
-    tie.close
-    (tie.spec
-    (λ c κs. search needs)
-    long
-    (λ c κs. search needs)
-    (λ c. search needs)
-    (λ c. search needs)
-    no-opening
-    (λ c κs. search needs)
-    (λ c κs. search needs)
-    lent
-    no-entries
-    more
-    all)
+    let first = tie.spec (λ c κs. search needs) long (λ c κs. search needs) (λ c. search needs) (λ c. search needs) no-opening (λ c κs. search needs) in
+    tie.close (first (λ c κs. search needs) lent no-entries more all)

@@ -38,22 +38,6 @@ end c = search (needs, digits-end)
 
 pub digits-to-spec : {M : Type 1} → statement M
 digits-to-spec =
-    tie.close
-    (tie.spec
-    Inv-loop
-    μ-loop
-    (λ c. search needs)
-    (λ c. search needs)
-    (λ c. search needs)
-    below
-    (λ c. search needs)
-    above
-    (λ c. search needs)
-    (λ c κs. search needs)
-    (λ c. search needs)
-    over
-    (λ c. search needs)
-    (λ c. search needs)
-    again
-    (λ c. search needs)
-    end)
+    let first = tie.spec Inv-loop μ-loop (λ c. search needs) (λ c. search needs) (λ c. search needs) below (λ c. search needs) above in
+    let second = first (λ c. search needs) (λ c κs. search needs) (λ c. search needs) over (λ c. search needs) (λ c. search needs) again in
+    tie.close (second (λ c. search needs) end)

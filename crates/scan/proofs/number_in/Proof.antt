@@ -26,15 +26,5 @@ right c = search (needs, in-right)
 
 pub number-in-spec : {M : Type 1} → statement M
 number-in-spec =
-    tie.close
-    (tie.spec
-    (λ c κs. search needs)
-    (λ c. search needs)
-    (λ c. search needs)
-    none
-    below
-    end
-    (λ c. search needs)
-    other
-    (λ c. search needs)
-    right)
+    let first = tie.spec (λ c κs. search needs) (λ c. search needs) (λ c. search needs) none below end (λ c. search needs) other (λ c. search needs) in
+    tie.close (first right)

@@ -26,13 +26,4 @@ digits c = search (needs, number-digits)
 
 pub number-to-spec : {M : Type 1} → statement M
 number-to-spec =
-    tie.close
-    (tie.spec
-    none
-    (λ c. search needs)
-    (λ c. search needs)
-    nought
-    below
-    above
-    (λ c κs. search needs)
-    digits)
+    tie.close (tie.spec none (λ c. search needs) (λ c. search needs) nought below above (λ c κs. search needs) digits)

@@ -36,18 +36,5 @@ done c = search (needs, literal-done)
 
 pub stands-spec : {M : Type 1} → statement M
 stands-spec =
-    tie.close
-    (tie.spec
-    Inv-loop
-    μ-loop
-    (λ c. search needs)
-    few
-    (λ c. search needs)
-    (λ c. search needs)
-    (λ c. search needs)
-    wrong
-    (λ c. search needs)
-    (λ c. search needs)
-    (λ c. search needs)
-    again
-    done)
+    let first = tie.spec Inv-loop μ-loop (λ c. search needs) few (λ c. search needs) (λ c. search needs) (λ c. search needs) wrong in
+    tie.close (first (λ c. search needs) (λ c. search needs) (λ c. search needs) again done)

@@ -57,21 +57,6 @@ append-no-span c =
 
 pub span-of-spec : {M : Type 1} → statement M
 span-of-spec =
-    tie.close
-    (tie.spec
-    (λ c. search needs)
-    (λ c κs. search needs)
-    (λ c. search needs)
-    (λ c κs. search needs)
-    (λ c κs. search needs)
-    (λ c κs. search needs)
-    (λ c. search needs)
-    (λ c. search needs)
-    (λ c. search needs)
-    (λ c. search needs)
-    yes
-    append-span
-    request
-    vote-no-span
-    append-yes-span
-    append-no-span)
+    let first = tie.spec (λ c. search needs) (λ c κs. search needs) (λ c. search needs) (λ c κs. search needs) (λ c κs. search needs) in
+    let second = first (λ c κs. search needs) (λ c. search needs) (λ c. search needs) (λ c. search needs) (λ c. search needs) yes append-span in
+    tie.close (second request vote-no-span append-yes-span append-no-span)

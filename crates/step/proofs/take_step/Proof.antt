@@ -93,34 +93,8 @@ received c =
 
 pub take-step-spec : {M : Type 1} → statement M
 take-step-spec =
-    tie.close
-    (tie.spec
-    (λ c κs. search needs)
-    (λ c. search needs)
-    (λ c. search needs)
-    (λ c. search needs)
-    refused
-    start-ready
-    (λ c. search needs)
-    (λ c. search needs)
-    started
-    propose-ready
-    (λ c. search needs)
-    (λ c. search needs)
-    (λ c. search needs)
-    proposed
-    (λ c κs. search needs)
-    (λ c κs. search needs)
-    send-ready
-    (λ c. search needs)
-    (λ c. search needs)
-    sent
-    restart-kept
-    (λ c. search needs)
-    (λ c. search needs)
-    (λ c. search needs)
-    restarted
-    receive-ready
-    (λ c. search needs)
-    (λ c. search needs)
-    received)
+    let begun = tie.spec (λ c κs. search needs) (λ c. search needs) (λ c. search needs) (λ c. search needs) refused start-ready (λ c. search needs) in
+    let further = begun (λ c. search needs) started propose-ready (λ c. search needs) (λ c. search needs) (λ c. search needs) proposed in
+    let longer = further (λ c κs. search needs) (λ c κs. search needs) send-ready (λ c. search needs) (λ c. search needs) sent restart-kept in
+    let nearly = longer (λ c. search needs) (λ c. search needs) (λ c. search needs) restarted receive-ready (λ c. search needs) (λ c. search needs) in
+    tie.close (nearly received)

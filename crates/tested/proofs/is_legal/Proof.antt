@@ -79,30 +79,7 @@ append-no c =
 
 pub is-legal-spec : {M : Type 1} → statement M
 is-legal-spec =
-    tie.close
-    (tie.spec
-    (λ c κs. search needs)
-    (λ c. search needs)
-    (λ c κs. search needs)
-    (λ c κs. search needs)
-    (λ c κs. search needs)
-    (λ c. search needs)
-    yes-rows
-    (λ c κs. search needs)
-    (λ c. search needs)
-    (λ c κs. search needs)
-    (λ c. search needs)
-    append-rows
-    (λ c κs. search needs)
-    (λ c. search needs)
-    (λ c κs. search needs)
-    (λ c κs. search needs)
-    (λ c. search needs)
-    (λ c κs. search needs)
-    (λ c κs. search needs)
-    request
-    yes
-    no
-    append
-    append-yes
-    append-no)
+    let first = tie.spec (λ c κs. search needs) (λ c. search needs) (λ c κs. search needs) (λ c κs. search needs) (λ c κs. search needs) in
+    let second = first (λ c. search needs) yes-rows (λ c κs. search needs) (λ c. search needs) (λ c κs. search needs) (λ c. search needs) in
+    let third = second append-rows (λ c κs. search needs) (λ c. search needs) (λ c κs. search needs) (λ c κs. search needs) (λ c. search needs) in
+    tie.close (third (λ c κs. search needs) (λ c κs. search needs) request yes no append append-yes append-no)

@@ -14,15 +14,5 @@ as-defined c =
 
 pub is-yes-spec : {M : Type 1} → statement M
 is-yes-spec =
-    tie.close
-    (tie.spec
-    (λ c κs. search needs)
-    (λ c κs. search needs)
-    (λ c κs. search needs)
-    (λ c κs. search needs)
-    (λ c κs. search needs)
-    (λ c. search needs)
-    (λ c κs. search needs)
-    (λ c κs. search needs)
-    (λ c κs. search needs)
-    as-defined)
+    let first = tie.spec (λ c κs. search needs) (λ c κs. search needs) (λ c κs. search needs) (λ c κs. search needs) (λ c κs. search needs) in
+    tie.close (first (λ c. search needs) (λ c κs. search needs) (λ c κs. search needs) (λ c κs. search needs) as-defined)

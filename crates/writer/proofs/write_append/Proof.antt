@@ -39,16 +39,5 @@ all c =
 
 pub write-append-spec : {M : Type 1} → statement M
 write-append-spec =
-    tie.close
-    (tie.spec
-    (λ c. search needs)
-    (λ c κs. search needs)
-    (λ c. search needs)
-    (λ c κs. search needs)
-    first
-    (λ c. search needs)
-    (λ c κs. search needs)
-    (λ c. search needs)
-    second
-    (λ c. search needs)
-    all)
+    let begun = tie.spec (λ c. search needs) (λ c κs. search needs) (λ c. search needs) (λ c κs. search needs) first (λ c. search needs) in
+    tie.close (begun (λ c κs. search needs) (λ c. search needs) second (λ c. search needs) all)

@@ -64,31 +64,7 @@ append-no c =
 
 pub write-own-spec : {M : Type 1} → statement M
 write-own-spec =
-    tie.close
-    (tie.spec
-    (λ c. search needs)
-    request-room
-    (λ c. search needs)
-    yes-room
-    (λ c. search needs)
-    (λ c. search needs)
-    append-room
-    (λ c. search needs)
-    (λ c. search needs)
-    (λ c κs. search needs)
-    append-yes-room
-    (λ c. search needs)
-    (λ c. search needs)
-    (λ c κs. search needs)
-    append-no-room
-    (λ c. search needs)
-    request
-    (λ c. search needs)
-    yes
-    no
-    (λ c. search needs)
-    append
-    (λ c. search needs)
-    append-yes
-    (λ c. search needs)
-    append-no)
+    let first = tie.spec (λ c. search needs) request-room (λ c. search needs) yes-room (λ c. search needs) (λ c. search needs) append-room in
+    let second = first (λ c. search needs) (λ c. search needs) (λ c κs. search needs) append-yes-room (λ c. search needs) (λ c. search needs) in
+    let third = second (λ c κs. search needs) append-no-room (λ c. search needs) request (λ c. search needs) yes no (λ c. search needs) append in
+    tie.close (third (λ c. search needs) append-yes (λ c. search needs) append-no)
