@@ -73,7 +73,7 @@ headOf k l =
 
 -- ---- the head of a legal state
 
--- ballot ≤ term; chosen ≤ length ≤ 256; an empty log if ballot is 0.
+-- ballot ≤ term; chosen ≤ length ≤ the limit; an empty log if ballot is 0.
 unfoldable pub keptHead : Head → Bool
 keptHead h =
     leb (h .ballot .0) (h .term .0)
@@ -98,7 +98,7 @@ confirmedIn w n ps =
 unfoldable pub followerHead : Head → Bool
 followerHead h = eqb (h .gathered .0) 0 && (all not (h .voters) && all isNone (h .confirmed))
 
--- Ballot below term; gathered pairs for the places just after its log, to 256 at most; voters; no confirmed lengths.
+-- Ballot below term; gathered pairs for the places just after its log, to the limit at most; voters; no confirmed lengths.
 unfoldable pub candidateHead : Who → Head → Bool
 candidateHead w h =
     ltb (h .ballot .0) (h .term .0)

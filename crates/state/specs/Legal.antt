@@ -13,7 +13,7 @@ use Rattle.state.specs.State.{Kept, Pair, Lost, follower, candidate, lea
 
 -- ---- the kept parts
 
--- ballot ≤ term; chosen ≤ length ≤ 256; an empty log if ballot is 0; entry terms at least 1, never falling, at most ballot; commands legal.
+-- ballot ≤ term; chosen ≤ length ≤ the limit; an empty log if ballot is 0; entry terms at least 1, never falling, at most ballot; commands legal.
 unfoldable pub legalKept : Kept → Bool
 legalKept k =
     leb (k .term) term-most
@@ -28,7 +28,7 @@ legalKept k =
 unfoldable pub legalPair : ℕ → Pair → Bool
 legalPair term g = leb 1 (g .ballot) && (ltb (g .ballot) term && legalCommand (g .command))
 
--- Ballot below term; itself and less than a majority among the voters, all in 1..N; gathered pairs for the places just after its log, to 256 at most.
+-- Ballot below term; itself and less than a majority among the voters, all in 1..N; gathered pairs for the places just after its log, to the limit at most.
 unfoldable pub legalCandidate : Who → Kept → List Bool → List Pair → Bool
 legalCandidate w k voters gathered =
     ltb (k .ballot) (k .term)
