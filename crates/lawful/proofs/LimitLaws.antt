@@ -1,4 +1,4 @@
--- A command is legal by limits that its kind sets: none of it is left to branches on the kind. Assumes nothing.
+-- A command is legal by limits that its kind sets, so that no test has to tell one kind from another. Assumes nothing.
 use Prim.Native.Nat.{ℕ, zero, suc, _+_, _*_, _/_, _≤_, _<_}
 use native.Mathlib.Omega.{arith}
 use mathlib.Core.Path.{_≡_, refl, sym, _∙_}

@@ -20,7 +20,7 @@ pub fn is_legal(n: Numbers) -> bool
     if 2 < n.kind {
         return false;
     }
-    // The limits by kind: a stop has no duration and no gains, a buzz has no second gain. So no branch depends on the kind, which nobody can foretell.
+    // The limits by kind: a stop has no duration and no gains, a buzz has no second gain. So no branch tells one kind from another, which a chip could not foretell.
     let one = (n.kind + 1) / 2;
     let two = n.kind / 2;
     let motor = (1 <= n.motor) & (n.motor <= 64);
