@@ -6,7 +6,7 @@ use mathlib.Core.Bool.{Bool, true, false}
 use mathlib.Core.List.{List, [], _∷_, map, map-id}
 use lib.ListN.{length, take, drop, getD, set, replicate}
 use Rattle.state.specs.Legal.{all, count}
-use Rattle.kinds.proofs.BoolLaws.{and-first, and-second, and-both}
+use Rattle.kinds.proofs.BoolLaws.{and-first, and-second, and-both, not-both}
 
 -- ---- all
 
@@ -53,13 +53,25 @@ module _ {A : Type 0} (P : A → Bool) where
 -- ---- count
 
 -- One more, or none, by a test.
-abbrev tally : Bool → ℕ → ℕ
+abbrev pub tally : Bool → ℕ → ℕ
 tally b n = elim b [ true ↦ 1 + n | false ↦ n ]
 
 -- A member that is counted or not.
-count-cons : {A : Type 0} (P : A → Bool) (x : A) (l : List A) (b : Bool) → P x ≡ b → count P (x ∷ l) ≡ tally b (count P l)
+pub count-cons : {A : Type 0} (P : A → Bool) (x : A) (l : List A) (b : Bool) → P x ≡ b → count P (x ∷ l) ≡ tally b (count P l)
 unfolding count
 count-cons P x l b e = ap (λ (t : Bool). tally t (count P l)) e
+
+-- Not more are counted by a stronger test.
+pub count-weaker : {A : Type 0} (P Q : A → Bool) → ((x : A) → P x ≡ true → Q x ≡ true) → (l : List A) → count P l ≤ count Q l
+unfolding count
+count-weaker {A} P Q i [] = omega arith
+count-weaker {A} P Q i (x ∷ l) = go (P x) refl (Q x) refl (count-weaker P Q i l)
+  where
+    go : (a : Bool) → P x ≡ a → (b : Bool) → Q x ≡ b → count P l ≤ count Q l → count P (x ∷ l) ≤ count Q (x ∷ l)
+    go true e true f r = omega (arith, count-cons P x l true e, count-cons Q x l true f)
+    go true e false f r = absurd (not-both (Q x) (i x e) f)
+    go false e true f r = omega (arith, count-cons P x l false e, count-cons Q x l true f)
+    go false e false f r = omega (arith, count-cons P x l false e, count-cons Q x l false f)
 
 -- Where something is counted and all have a property, something counted has it.
 pub count-some :

@@ -10,7 +10,8 @@ use lib.ListN.{take}
 use Rattle.kinds.specs.Sizes.{majority}
 use Rattle.state.specs.Legal.{all, count}
 use Rattle.rules.specs.Majority.{confirmedBy, largest, majorityPlace}
-use Rattle.rules.specs.Theorems.{MajorityPlaceIsLargest}
+use Rattle.rules.specs.Theorems.{LargestConfirmed, MajorityPlaceIsLargest, MajorityPlaceIsOnly}
+use Rattle.kinds.proofs.BoolLaws.{not-both}
 use Rattle.rules.proofs.CountLaws.{all-take, count-some}
 
 -- ---- the largest number with a property
@@ -68,6 +69,22 @@ unfolding majorityPlace
 majorityPlace-is-largest n confirmed =
     let P = confirmedBy n confirmed in
     record { has = largest-has P _; most = largest-most P _; none-above = largest-none P _ }
+
+-- Of two that are the largest, neither lies above the other.
+not-above : (n : ℕ) (confirmed : List ℕ) (p q : ℕ) → LargestConfirmed n confirmed p → LargestConfirmed n confirmed q → q ≤ p
+not-above n confirmed p q at-p at-q = go (leb q p) refl
+  where
+    go : (t : Bool) → leb q p ≡ t → q ≤ p
+    go true e = leb-true q p e
+    go false e =
+        let above = leb-false q p e in
+        absurd (not-both (confirmedBy n confirmed q) (at-q .has (omega arith)) (at-p .none-above q above (at-q .most)))
+
+-- No other place is.
+pub majorityPlace-is-only : MajorityPlaceIsOnly
+majorityPlace-is-only n confirmed p l =
+    let m = majorityPlace-is-largest n confirmed in
+    omega (arith, not-above n confirmed _ p m l, not-above n confirmed p _ l m)
 
 -- It is at most what all have confirmed at most.
 pub majorityPlace-within : (n m : ℕ) (confirmed : List ℕ) → all (λ x. leb x m) confirmed ≡ true → majorityPlace n confirmed ≤ m

@@ -120,6 +120,10 @@ ThirteenExactly =
 abbrev pub MajorityPlaceIsLargest : Type 0
 MajorityPlaceIsLargest = (n : ℕ) (confirmed : List ℕ) → LargestConfirmed n confirmed (majorityPlace n confirmed)
 
+-- No other place is.
+abbrev pub MajorityPlaceIsOnly : Type 0
+MajorityPlaceIsOnly = (n : ℕ) (confirmed : List ℕ) (place : ℕ) → LargestConfirmed n confirmed place → place ≡ majorityPlace n confirmed
+
 -- It lies within a legal leader's log.
 abbrev pub MajorityPlaceInLog : Type 0
 MajorityPlaceInLog =
