@@ -1,1 +1,3 @@
 pub mod ConfirmedLaws
+pub mod LengthLaws
+pub mod TriedLaws

@@ -24,17 +24,23 @@ fn is_confirmed(n: u32, confirmed: [Place; 7], p: Place) -> bool
     n / 2 + 1 <= found
 }
 
-// The largest place confirmed by a majority; 0 if there is none. It tries all places from the limit down.
+// The largest place confirmed by a majority; 0 if there is none. It is the largest of the hubs' lengths that a majority has confirmed, so no
+// other place is tried. No length is bound to be a place: one beyond the last is cut to it.
 pub fn majority_place(n: u32, confirmed: [Place; 7]) -> Place
     requires { ⌜ n ≤ hubs-most ⌝ }
     ensures { λ r. ⌜ r ≡ place (majorityPlace n (placeNumbers confirmed)) ⌝ }
 {
-    let mut p = kinds::places();
-    while 0 < p {
-        if is_confirmed(n, confirmed, Place::of(p)) {
-            return Place::of(p);
+    let mut best = Place::of(0);
+    let mut tried: u32 = 0;
+    while tried < n {
+        let p = confirmed[tried as usize];
+        if best.below(p) {
+            if is_confirmed(n, confirmed, p) {
+                best = p;
+            }
         }
-        p -= 1;
+        tried += 1;
     }
-    Place::of(0)
+    let last = Place::of(kinds::places());
+    if last.below(best) { last } else { best }
 }

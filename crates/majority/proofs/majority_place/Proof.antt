@@ -1,53 +1,53 @@
--- `majority::majority_place` meets its contract. The loop's invariant: the largest of all places is the largest of those up to `p`.
--- The measure is `p`. Assumes nothing.
+-- `majority::majority_place` meets its contract. The loop's invariant: of the lengths tried so far, `best` is the largest that is confirmed by
+-- a majority. The measure is what is left of the hubs. Assumes nothing.
 use Prim.Native.Nat.{_-_}
-use mathlib.Core.Path.{_≡_, sym, _∙_, ap}
+use mathlib.Core.Path.{sym, _∙_, ap}
+use mathlib.Core.Logic.{⊎-elim}
 use borrow.Author.Needs.{needs}
-use mathlib.Core.Bool.{true, false}
-use Rattle.kinds.specs.declared.Place.{Place}
 use Rattle.kinds.specs.Of.{place}
-use Rattle.rules.specs.Majority.{confirmedBy, largest, majorityPlace}
-use Rattle.majority.specs.Numbers.{placeNumbers}
-use Rattle.majority.proofs.ConfirmedLaws.{largest-here, largest-below, largest-none}
+use Rattle.majority.proofs.TriedLaws.{Tried, tried-none, tried-found, tried-unconfirmed, tried-lower, tried-beyond, tried-within}
 use Rattle.majority.proofs.majority_place.Statement.{statement}
 use Rattle.majority.proofs.majority_place.Tie as tie
 
 abbrev Inv-loop : tie.InvT-loop
-Inv-loop n confirmed p₀ p = majorityPlace n (placeNumbers confirmed) ≡ largest (confirmedBy n (placeNumbers confirmed)) p
+Inv-loop n confirmed best₀ tried₀ best tried = Tried n confirmed tried best
 
 abbrev μ-loop : tie.MeasureT-loop
-μ-loop n confirmed p₀ p = p
+μ-loop n confirmed best₀ tried₀ best tried = n - tried
 
--- All places are left.
-begins : tie.Need-loop-holds Inv-loop μ-loop
-unfolding majorityPlace
-begins c = rw (c .places .ensures)
+-- No length is tried.
+none : tie.Need-loop-holds Inv-loop μ-loop
+none c = rw (c .of .ensures) (tried-none (c .before .args .n) (c .before .args .t2))
 
--- It is found.
-found : tie.Need-returns Inv-loop μ-loop
-found c =
-    let start = c .before .before .before .before .before .before .before .args in
+-- One more is tried.
+more : tie.Need-loop-again Inv-loop μ-loop
+more c =
+    let inv = c .before .before .before .before .loop .inv in
+    let left = c .before .before .before .loop-test .taken in
+    let below = sym (c .before .below .ensures) in
+    ⊎-elim
+    (λ w. rw (w .3) (tried-found inv left (below ∙ w .0 .taken) (sym (w .1 .ensures) ∙ w .2 .taken)))
+    (⊎-elim
+    (λ w. rw (w .3) (tried-unconfirmed inv left (sym (w .1 .ensures) ∙ w .2 .left)))
+    (λ w. rw (w .1) (tried-lower inv left (below ∙ w .0 .left))))
+    (c .if1 .came)
+
+-- All are tried, and the best lies beyond the last place.
+beyond : tie.Need-returns Inv-loop μ-loop
+beyond c =
     let loop = c .before .before .before .before .before .loop in
-    let P = confirmedBy (start .n) (placeNumbers (start .confirmed)) in
-    let has : P (loop .p) ≡ true = ap (λ (q : Place). P (q .0)) (sym (c .before .before .before .of .ensures)) ∙ sym (c .before .before .is-confirmed .ensures) ∙ c .before .if1 .taken in
-    c .of2 .ensures ∙ ap place (sym (loop .inv ∙ largest-here P (loop .p) (c .before .before .before .before .loop-test .taken) has))
+    let all = c .before .before .before .before .loop-test .left in
+    let last = c .before .before .of2 .ensures ∙ ap place (c .before .before .before .places .ensures) in
+    tried-beyond (loop .inv) all (search needs) _ last (sym (c .before .below2 .ensures) ∙ c .if3 .taken)
 
--- It is further down.
-again : tie.Need-loop-again Inv-loop μ-loop
-again c =
-    let start = c .before .before .before .before .before .before .args in
-    let loop = c .before .before .before .before .loop in
-    let P = confirmedBy (start .n) (placeNumbers (start .confirmed)) in
-    let lacks : P (loop .p) ≡ false = ap (λ (q : Place). P (q .0)) (sym (c .before .before .of .ensures)) ∙ sym (c .before .is-confirmed .ensures) ∙ c .if1 .left in
-    loop .inv ∙ largest-below P (loop .p) (c .before .before .before .loop-test .taken) lacks
-
--- There is none.
-none-left : tie.Need-returns-2 Inv-loop μ-loop
-none-left c =
-    let start = c .before .before .before .before .args in
-    let loop = c .before .before .loop in
-    let P = confirmedBy (start .n) (placeNumbers (start .confirmed)) in
-    c .of3 .ensures ∙ ap place (sym (loop .inv ∙ largest-none P (loop .p) (c .before .loop-test .left)))
+-- All are tried, and the best is a place.
+within : tie.Need-returns-2 Inv-loop μ-loop
+within c =
+    let loop = c .before .before .before .before .before .loop in
+    let all = c .before .before .before .before .loop-test .left in
+    let last = c .before .before .of2 .ensures ∙ ap place (c .before .before .before .places .ensures) in
+    tried-within (loop .inv) all (search needs) _ last (sym (c .before .below2 .ensures) ∙ c .if3 .left)
 
 pub majority-place-spec : {M : Type 1} → statement M
-majority-place-spec = tie.close (tie.spec Inv-loop μ-loop (λ c κs. search needs) begins (λ c κs. search needs) (λ c κs. search needs) (λ c κs. search needs) found (λ c. search needs) (λ c. search needs) again (λ c κs. search needs) none-left)
+majority-place-spec =
+    tie.close (tie.spec Inv-loop μ-loop (λ c κs. search needs) none (λ c. search needs) (λ c. search needs) (λ c. search needs) (λ c κs. search needs) (λ c κs. search needs) (λ c. search needs) (λ c. search needs) more (λ c κs. search needs) (λ c κs. search needs) (λ c κs. search needs) beyond within)
