@@ -4,10 +4,13 @@
 use compare::binding::both::{Call, Tally};
 use compare::binding::call::{PROPOSE, RECEIVE, RESTART, SEND, START};
 use compare::generator::damage::row_changes;
-use compare::generator::messages::{ROOM, shapes};
+use compare::generator::messages::{ROOM, Sample, rows, shapes};
 use compare::generator::rng::{Rng, seed};
 use compare::generator::{aimed, states};
-use image::{CANDIDATE, HEAD_SIZE, Image, LEADER, ROW_SIZE, STATE_SIZE, number_at, put_number};
+use image::{
+    CANDIDATE, CHOSEN_AT, HEAD_SIZE, Image, LEADER, ROW_SIZE, STATE_SIZE, number_at, put_number,
+    rows_of_bytes,
+};
 use independent::{Group, LIMIT, Outcome};
 
 /// A hub in a state, with a message and a command for it.
@@ -245,6 +248,32 @@ fn every_changed_proposal_is_answered_alike() {
     }
     println!("{tally:?}");
     assert!(tally.outcomes[Outcome::Done] >= 200 && tally.outcomes[Outcome::BadCommand] >= 2_000);
+}
+
+/// A leader with a log of three, and what each hub has confirmed of it: the digits of the number in base four.
+fn led(number: u32) -> Image {
+    let log = rows_of_bytes(&rows(3, 1, 2));
+    let confirmed = std::array::from_fn(|hub| number >> (2 * hub) & 3);
+    Image { term: 2, ballot: 2, role: LEADER, confirmed, log, ..Image::default() }
+}
+
+/// Whatever lengths the hubs have confirmed, an append-yes of any hub with any end is answered alike.
+#[test]
+fn every_confirmed_length_counts_alike() {
+    let mut tally = Tally::default();
+    let mut moved = 0;
+    for (n, own) in [(3, 2), (5, 1), (7, 7)] {
+        for image in (0..1 << (2 * n)).map(led).filter(|image| image.confirmed[own as usize - 1] == 3) {
+            let state = &image.bytes();
+            for (from, end) in (1..=n).flat_map(|from| (0..=3).map(move |end| (from, end))) {
+                let input = &Sample { fields: [5, 2, from, own, end, 0, 0, 0], rows: Vec::new() }.lines();
+                let call = Call { n, own, event: RECEIVE, a: 0, b: 0, state, input, room: ROOM };
+                moved += u64::from(number_at(&tally.compare(&call).state, CHOSEN_AT) > 0);
+            }
+        }
+    }
+    println!("{tally:?}, chosen moved {moved} times");
+    assert!(moved >= 20_000 && tally.outcomes[Outcome::NothingNew] >= 20_000);
 }
 
 /// Every legal shape of a message, wherever it was meant for, and some texts that are none.
