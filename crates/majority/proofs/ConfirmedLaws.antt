@@ -1,5 +1,5 @@
 -- Laws of counting the confirmed lengths. Assumes nothing.
-use Prim.Native.Nat.{ℕ, zero, suc, _+_, _-_, _≤_, _<_}
+use Prim.Native.Nat.{ℕ, zero, suc, _+_, _≤_, _<_}
 use native.Mathlib.Omega.{arith}
 use native.Mathlib.Numerals.{add-one}
 use mathlib.Core.Path.{_≡_, refl, sym, _∙_, ap}
@@ -13,6 +13,7 @@ use Rattle.state.specs.Legal.{count}
 use Rattle.rules.proofs.CountLaws.{tally, count-cons}
 use Rattle.majority.specs.Numbers.{placeNumbers}
 
+-- A length's number stands where the length does.
 pub number-at : (ps : List Place) (i : ℕ) → getD (placeNumbers ps) i 0 ≡ getD ps i (place 0) .0
 number-at [] i = refl
 number-at (p ∷ ps) zero = refl

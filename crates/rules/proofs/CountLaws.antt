@@ -61,7 +61,7 @@ pub count-cons : {A : Type 0} (P : A → Bool) (x : A) (l : List A) (b : Bool) �
 unfolding count
 count-cons P x l b e = ap (λ (t : Bool). tally t (count P l)) e
 
--- Not more are counted by a stronger test.
+-- A weaker test counts no fewer.
 pub count-weaker : {A : Type 0} (P Q : A → Bool) → ((x : A) → P x ≡ true → Q x ≡ true) → (l : List A) → count P l ≤ count Q l
 unfolding count
 count-weaker {A} P Q i [] = omega arith

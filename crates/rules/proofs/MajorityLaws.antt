@@ -80,7 +80,7 @@ not-above n confirmed p q at-p at-q = go (leb q p) refl
         let above = leb-false q p e in
         absurd (not-both (confirmedBy n confirmed q) (at-q .has (omega arith)) (at-p .none-above q above (at-q .most)))
 
--- No other place is.
+-- No other place is the largest.
 pub majorityPlace-is-only : MajorityPlaceIsOnly
 majorityPlace-is-only n confirmed p l =
     let m = majorityPlace-is-largest n confirmed in

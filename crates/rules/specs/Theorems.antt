@@ -120,7 +120,7 @@ ThirteenExactly =
 abbrev pub MajorityPlaceIsLargest : Type 0
 MajorityPlaceIsLargest = (n : ℕ) (confirmed : List ℕ) → LargestConfirmed n confirmed (majorityPlace n confirmed)
 
--- No other place is.
+-- No other place is the largest that a majority has confirmed.
 abbrev pub MajorityPlaceIsOnly : Type 0
 MajorityPlaceIsOnly = (n : ℕ) (confirmed : List ℕ) (place : ℕ) → LargestConfirmed n confirmed place → place ≡ majorityPlace n confirmed
 
