@@ -77,7 +77,7 @@ module _ (n : ℕ) (confirmed : List ℕ) where
       let xs = take n confirmed in
       le-leb (majority n) (count (leb p) xs) (omega (arith, lower p q xs h, leb-true (majority n) (count (leb q) xs) e))
 
-  -- A confirmed place is a confirmed length, or below one.
+  -- A confirmed place is a confirmed length, or below one that is confirmed too.
   pub confirmed-length :
       (p : ℕ) → n ≤ length confirmed → confirmedBy n confirmed p ≡ true
       → (i : ℕ) × (i < n) × (p ≤ getD confirmed i 0) × (confirmedBy n confirmed (getD confirmed i 0) ≡ true)

@@ -250,10 +250,10 @@ fn every_changed_proposal_is_answered_alike() {
     assert!(tally.outcomes[Outcome::Done] >= 200 && tally.outcomes[Outcome::BadCommand] >= 2_000);
 }
 
-/// A leader with a log of three, and what each hub has confirmed of it: the digits of the number in base four.
-fn led(number: u32) -> Image {
+/// A leader with a log of three, and what each hub has confirmed of it: the digits of `lengths` in base four.
+fn leader_of_three(lengths: u32) -> Image {
     let log = rows_of_bytes(&rows(3, 1, 2));
-    let confirmed = std::array::from_fn(|hub| number >> (2 * hub) & 3);
+    let confirmed = std::array::from_fn(|hub| lengths >> (2 * hub) & 3);
     Image { term: 2, ballot: 2, role: LEADER, confirmed, log, ..Image::default() }
 }
 
@@ -263,7 +263,9 @@ fn every_confirmed_length_counts_alike() {
     let mut tally = Tally::default();
     let mut moved = 0;
     for (n, own) in [(3, 2), (5, 1), (7, 7)] {
-        for image in (0..1 << (2 * n)).map(led).filter(|image| image.confirmed[own as usize - 1] == 3) {
+        let images = (0..1 << (2 * n)).map(leader_of_three);
+        // Its own length is the log's.
+        for image in images.filter(|image| image.confirmed[own as usize - 1] == 3) {
             let state = &image.bytes();
             for (from, end) in (1..=n).flat_map(|from| (0..=3).map(move |end| (from, end))) {
                 let input = &Sample { fields: [5, 2, from, own, end, 0, 0, 0], rows: Vec::new() }.lines();
