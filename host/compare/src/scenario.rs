@@ -8,7 +8,7 @@
 //! hubs 3                  the group's size, first of all
 //! 1 starts: ask           hub 1 starts; its message is called `ask` (a message without a name is lost)
 //! 2 hears ask: yes        hub 2 receives `ask`, any number of times; what it answers is called `yes`
-//! 1 proposes c250         a command: its letter is the motor (c is 3), its number the ms of a buzz with gain 0.5
+//! 1 proposes c3           a command: its letter is the motor (c is 3), its number the tenths of a second of a buzz with gain 0.5
 //! 1 sends 2 from 0: all   hub 1 sends to hub 2 from prev 0
 //! 2 restarts              from its stored bytes
 //! 2 restarts over ff      the same, with ff in every byte of what is lost
@@ -22,7 +22,7 @@ use crate::binding::read_message;
 use crate::checker::message::hex;
 use crate::checker::{Checker, Deed};
 use crate::generator::messages::{FIELDS, ROOM};
-use image::{CANDIDATE, Command, Image, LEADER, Row, STATE_SIZE, lost_parts, put_number};
+use image::{CANDIDATE, Command, Image, LEADER, Row, STATE_SIZE, lost_parts, number_at, put_number};
 use independent::{Hub, Outcome};
 use std::collections::BTreeMap;
 use std::fmt::Write;
@@ -279,19 +279,19 @@ fn rows(rows: &[Row]) -> String {
 
 // ---- commands by name
 
-/// The command of a name: a letter for the motor and a number for the ms.
+/// The command of a name: a letter for the motor and a number for the tenths of a second.
 fn command(name: &str) -> Result<Command, String> {
     let wrong = || format!("{name} is no command");
     let letter = name.bytes().next().filter(u8::is_ascii_lowercase).ok_or_else(wrong)?;
-    let duration = name[1..].parse().map_err(|_| wrong())?;
+    let tenths: u32 = name[1..].parse().map_err(|_| wrong())?;
     let mut bytes = [0, letter - b'a' + 1, 0, 1, 0, 0, 0, 0, 0x3f, 0, 0, 0, 0, 0, 0, 0];
-    put_number(&mut bytes, 4, duration);
+    put_number(&mut bytes, 4, tenths.checked_mul(100).ok_or_else(wrong)?);
     Ok(bytes)
 }
 
 /// The name of a command; its digits if it has none.
 fn name_of(bytes: &Command) -> String {
     let letter = char::from(bytes[1].wrapping_add(b'a' - 1));
-    let name = format!("{letter}{}", u32::from_be_bytes([bytes[4], bytes[5], bytes[6], bytes[7]]));
+    let name = format!("{letter}{}", number_at(bytes, 4) / 100);
     if command(&name).as_ref() == Ok(bytes) { name } else { hex(bytes) }
 }

@@ -85,7 +85,7 @@ impl Night {
 
 /// A buzz, another for each place.
 fn command(place: u32) -> [u8; 16] {
-    let [high, low] = (1 + place as u16).to_be_bytes();
+    let [high, low] = (250 + place as u16).to_be_bytes();
     [0, 3, 0, 1, 0, 0, high, low, 0x3f, 0, 0, 0, 0, 0, 0, 0]
 }
 
