@@ -36,7 +36,7 @@ extern "C" {
 
 /* ---- Version: 10,000 for each major version, 100 for each minor one, 1 for each patch. */
 
-#define KRITNAMON_VERSION 10000u  /* 1.0.0 */
+#define KRITNAMON_VERSION 10100u  /* 1.1.0 */
 
 /* The version of the library that was linked. Firmware compares it with KRITNAMON_VERSION, that of
  * the header, once when it starts. Proved: kritnamon_version in crates/kritnamon. */
@@ -54,7 +54,8 @@ uint32_t kritnamon_version(void);
 #define KRITNAMON_CONTRADICTING  7u  /* a message of the hub's term that no hub of its group sends it */
 #define KRITNAMON_WRONG_ROLE     8u  /* start at a leader; propose or send at another role */
 #define KRITNAMON_NO_TERM_LEFT   9u  /* start at the last term */
-#define KRITNAMON_BAD_COMMAND   10u  /* command not 16 bytes or not legal */
+#define KRITNAMON_BAD_COMMAND   10u  /* command not 16 bytes or not legal; propose: also one that is
+                                        shorter than KRITNAMON_FELT_LEAST and no stop */
 #define KRITNAMON_LOG_FULL      11u  /* propose at a full log */
 #define KRITNAMON_OUT_OF_RANGE  12u  /* send to a number outside 1..n or to itself, or prev above the
                                         log's length; kritnamon_reported: no such place is reported */
@@ -91,6 +92,12 @@ uint32_t kritnamon_version(void);
 #define KRITNAMON_STOP 0u  /* duration, a and b zero */
 #define KRITNAMON_BUZZ 1u  /* duration 1 to 600,000, a the gain, b zero */
 #define KRITNAMON_RAMP 2u  /* duration 1 to 600,000, a the gain at its start, b at its end */
+
+/* The least duration, in ms, of a buzz or ramp that is proposed: in less a motor doesn't spin up.
+ * KRITNAMON_PROPOSE refuses a shorter one with KRITNAMON_BAD_COMMAND, and nothing else does. It is
+ * legal all the same: one that a state or a message holds, from a hub of version 1.0.0 say, is kept,
+ * sent and reported, and any is read and written, as other commands are. */
+#define KRITNAMON_FELT_LEAST 20u
 
 /* Where a command's numbers stand, and how many there are. A gain is given by the bits of its float,
  * as a number at most 3f800000: 0 to 1.0, and neither -0 nor NaN. kritnamon_inline.h converts. */
@@ -268,7 +275,8 @@ uint32_t kritnamon_reported(const uint8_t *state, size_t length, uint32_t place,
 
 /* Events. 0 is none, so that a call whose numbers were never filled in is refused. */
 #define KRITNAMON_START   1u  /* follower or candidate: asks all hubs for their votes at the next term */
-#define KRITNAMON_PROPOSE 2u  /* leader: adds the command in `input` to its log; writes no message */
+#define KRITNAMON_PROPOSE 2u  /* leader: adds the command in `input`, a stop or one of at least
+                                 KRITNAMON_FELT_LEAST ms, to its log; writes no message */
 #define KRITNAMON_SEND    3u  /* leader: writes an append for peer `a` with all entries behind prev `b`,
                                  0 to the log's length */
 #define KRITNAMON_RESTART 4u  /* any: follower again, as after a loss of power; of the state only the

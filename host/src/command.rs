@@ -9,6 +9,9 @@ pub const SIZE: usize = 16;
 const MOTORS: RangeInclusive<u16> = 1..=64;
 const DURATIONS: RangeInclusive<i32> = 1..=600_000;
 
+/// The shortest buzz or ramp that may be proposed, in ms: a motor does not spin up in less.
+pub const FELT_LEAST: i32 = 20;
+
 const STOP: u16 = 0;
 const BUZZ: u16 = 1;
 const RAMP: u16 = 2;
@@ -59,6 +62,14 @@ pub fn write(command: &Command, out: &mut [u8]) -> Answer {
 /// Whether these bytes are a legal command's.
 pub(crate) fn bytes_legal(bytes: &[u8; SIZE]) -> bool {
     decode(bytes).is_some()
+}
+
+/// Whether a command of these bytes may be proposed. Shorter ones may still be held and sent.
+pub(crate) fn may_propose(bytes: &[u8; SIZE]) -> bool {
+    decode(bytes).is_some_and(|command| match command.case {
+        Case::Stop => true,
+        Case::Buzz(_) | Case::Ramp(..) => command.duration >= FELT_LEAST,
+    })
 }
 
 fn decode(bytes: &[u8; SIZE]) -> Option<Command> {

@@ -131,7 +131,7 @@ pub enum Outcome {
     WrongRole = 8,
     /// Start at the last term there is.
     NoTermLeft = 9,
-    /// Command not 16 bytes or not legal.
+    /// Command not 16 bytes or not legal; proposed, also one too short to feel.
     BadCommand = 10,
     /// Propose at a full log.
     LogFull = 11,

@@ -125,7 +125,7 @@ fn propose(state: &mut State, input: &[u8]) -> Answer {
     if state.head.role != Role::Leader {
         return Answer::refused(Outcome::WrongRole);
     }
-    let Some(command) = legal_command(input) else {
+    let Some(command) = proposal(input) else {
         return Answer::refused(Outcome::BadCommand);
     };
     if state.head.length == Place(LIMIT) {
@@ -136,9 +136,9 @@ fn propose(state: &mut State, input: &[u8]) -> Answer {
     Answer::done(0)
 }
 
-fn legal_command(input: &[u8]) -> Option<&[u8; command::SIZE]> {
+fn proposal(input: &[u8]) -> Option<&[u8; command::SIZE]> {
     let bytes: &[u8; command::SIZE] = input.try_into().ok()?;
-    command::bytes_legal(bytes).then_some(bytes)
+    command::may_propose(bytes).then_some(bytes)
 }
 
 fn send(state: &State, peer: Hub, prev: Place, out: &mut [u8]) -> Answer {

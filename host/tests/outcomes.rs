@@ -189,6 +189,48 @@ fn outcome_10_command() {
     refused(&ONE.propose(&leads, &[0; 16]), 10);
 }
 
+/// Kind, duration, and whether it may be proposed.
+const PROPOSALS: [(u16, u32, bool); 10] = [
+    (0, 0, true),
+    (1, 1, false),
+    (1, 19, false),
+    (1, 20, true),
+    (1, 256, true),
+    (1, 275, true),
+    (2, 1, false),
+    (2, 19, false),
+    (2, 20, true),
+    (2, 600_000, true),
+];
+
+#[test]
+fn outcome_10_too_short_to_feel() {
+    for (kind, duration, felt) in PROPOSALS {
+        let command = bytes(&format!("0003{kind:04x}{duration:08x}0000000000000000"));
+        let outcome = ONE.propose(&leader(1, 0, &[], &[]), &command).outcome;
+        assert_eq!(outcome, if felt { 0 } else { 10 }, "kind {kind}, {duration} ms");
+    }
+}
+
+/// What may not be proposed any more is kept where it is, sent, taken and led with.
+#[test]
+fn short_commands_are_held() {
+    for ms in 1..20 {
+        let row = (1, command(ms));
+        let held = Image { log: vec![row], ..follower(1, 1, 0, &[]) };
+        let leads = Image { log: vec![row], ..leader(1, 0, &[], &[1]) };
+        let text = append(1, [1, 2], 0, 0, 0, &[entry(1, ms)]);
+        done(&ONE.send(&leads, 2, 0), &leads, &text);
+        done(&TWO.receive(&follower(1, 0, 0, &[]), &text), &held, &end(1, 2, 1, 1));
+        done(&TWO.event(RESTART, 0, 0, &held, b""), &held, "");
+        let mut asks = candidate(2, 0, &[], &[1]);
+        let vote = yes(2, 2, 1, 0, 0, &[]);
+        asks.gathered = vec![row];
+        let led = Image { log: vec![(2, row.1)], ..leader(2, 0, &[], &[1]) };
+        done(&ONE.receive(&asks, &vote), &led, "");
+    }
+}
+
 #[test]
 fn outcome_12_send() {
     let leads = leader(4, 1, &[1, 3, 4], &[3, 3, 1, 0, 2]);
@@ -298,7 +340,11 @@ fn order_of_own_faults() {
     refused(&ONE.start(&leader(u32::MAX, 0, &[], &[])), 8);
     refused(&ONE.propose(&follower(1, 1, 0, &[1; 256]), b""), 8);
     refused(&ONE.send(&follower(1, 1, 0, &[]), 0, 9), 8);
-    refused(&ONE.propose(&leader(1, 0, &[1; 256], &[256]), b""), 10);
+    refused(&ONE.propose(&follower(1, 1, 0, &[1; 256]), &command(19)), 8);
+    let full = leader(1, 0, &[1; 256], &[256]);
+    refused(&ONE.propose(&full, b""), 10);
+    refused(&ONE.propose(&full, &command(19)), 10);
+    refused(&ONE.propose(&full, &command(20)), 11);
 }
 
 #[test]
@@ -511,9 +557,9 @@ fn chosen_by_majority() {
 fn propose_adds_at_the_end() {
     let leads = leader(3, 1, &[1, 2], &[1, 0, 0, 0, 2]);
     let mut after = leads.clone();
-    after.log.push((3, command(9)));
+    after.log.push((3, command(90)));
     after.confirmed[4] = 3;
-    done(&At(5, 5).propose(&leads, &command(9)), &after, "");
+    done(&At(5, 5).propose(&leads, &command(90)), &after, "");
 }
 
 // ---- shortcuts that break a home

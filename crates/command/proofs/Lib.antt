@@ -4,3 +4,4 @@ pub mod CommandLaws
 pub mod CaseLaws
 pub mod AnswersLaws
 pub mod EntryLaws
+pub mod ProposalLaws

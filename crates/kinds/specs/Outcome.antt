@@ -41,7 +41,7 @@ wrong-role = 8
 abbrev pub no-term-left : ℕ
 no-term-left = 9
 
--- Proposed command not 16 bytes or not legal.
+-- Proposed command not 16 bytes, not legal, or too short to feel.
 abbrev pub bad-command : ℕ
 bad-command = 10
 

@@ -1,17 +1,22 @@
-// Whether a command is legal (rules R7 to R9): by its five numbers, by its four words, at a place of a lent slice, and as a slice of its own.
-// Who reads entries, rows or a proposal asks here.
+// Whether a command is legal (rules R7 to R9): by its five numbers, by its four words, at a place of a lent slice, and as a slice of its own;
+// and whether it may be proposed (rule R43). Who reads entries, rows or a proposal asks here.
 ghost use mathlib.Core.Path.{_≡_};
 ghost use Prim.Native.Nat.{_+_, _≤_};
 ghost use lib.ListN.{length};
 ghost use Rattle.command.specs.Words.{part};
 ghost use Rattle.command.specs.Command.{legalCommand, command-size, commandOf};
 ghost use Rattle.command.specs.Answers.{ofNumbers, ofWords, numbersAt, isCommand};
+ghost use Rattle.command.specs.Proposal.{proposable, isProposal};
 use command::Numbers;
 
 // The bits of gain 1.0, the greatest.
 const GAIN_MOST: u32 = 0x3f80_0000;
 // The longest duration, in ms.
 const DURATION_MOST: u32 = 600_000;
+// The shortest buzz or ramp that can be felt, in ms.
+const FELT_LEAST: u32 = 20;
+// The kind of a stop.
+const STOP: u32 = 0;
 
 // Whether the command of these numbers is legal.
 pub fn is_legal(n: Numbers) -> bool
@@ -27,6 +32,13 @@ pub fn is_legal(n: Numbers) -> bool
     let duration = (one <= n.duration) & (n.duration <= one * DURATION_MOST);
     let gains = (n.a <= one * GAIN_MOST) & (n.b <= two * GAIN_MOST);
     motor & (duration & gains)
+}
+
+// Whether the command of these numbers may be proposed (rule R43): it is legal, and a stop or long enough to feel.
+fn may_propose(n: Numbers) -> bool
+    ensures { λ r. ⌜ r ≡ proposable (ofNumbers n) ⌝ }
+{
+    is_legal(n) & ((n.kind == STOP) | (FELT_LEAST <= n.duration))
 }
 
 // Whether the command of these four words is legal; motor and kind share the first.
@@ -72,4 +84,14 @@ pub fn is_command(bytes: &[u8]) -> bool
         return false;
     }
     is_legal_at(bytes, 0)
+}
+
+// Whether these bytes may be proposed: 16 of them, and such a command's.
+pub fn is_proposal(bytes: &[u8]) -> bool
+    ensures { λ r. ⌜ r ≡ isProposal (now (bytes .entry)) ⌝ }
+{
+    if bytes.len() != command::SIZE {
+        return false;
+    }
+    may_propose(numbers_at(bytes, 0))
 }

@@ -7,7 +7,7 @@ use mathlib.Core.Option.{Option, none, some}
 use lib.Dec.{eqb}
 use lib.ListN.{length}
 use Rattle.kinds.specs.Sizes.{Who, isSize, isHub, term-most, limit}
-use Rattle.command.specs.Answers.{isCommand}
+use Rattle.command.specs.Proposal.{isProposal}
 use Rattle.message.specs.Message.{Message, vote-yes, append, append-yes}
 use Rattle.message.specs.Legal.{legalBody}
 use Rattle.message.specs.Walk.{entriesFrom, Lie}
@@ -60,7 +60,7 @@ pub record Adds (w : Who) (h : Head) (l command : List ℕ) : Type 0 where
   pub head : h ≡ headIn l
   pub role : h .role ≡ as-leader
   pub room : h .length .0 < limit
-  pub legal : isCommand command ≡ true
+  pub proposal : isProposal command ≡ true
 
 -- What holds where a hub starts: no leader's head, and a term that is not the last.
 pub record Starts (w : Who) (h : Head) (l : List ℕ) : Type 0 where

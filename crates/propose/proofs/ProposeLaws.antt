@@ -11,10 +11,9 @@ use lib.Seq.{sets, take-all}
 use Rattle.kinds.specs.Role.{as-leader}
 use Rattle.kinds.specs.Sizes.{Who, limit, row-size}
 use Rattle.command.specs.Command.{Command, commandOf}
-use Rattle.command.specs.Proposal.{proposable, readProposal}
-use Rattle.command.specs.Answers.{isCommand}
+use Rattle.command.specs.Proposal.{isProposal, readProposal}
 use Rattle.command.proofs.WordsLaws.{Bytes, part-last, wordAt-below}
-use Rattle.command.proofs.AnswersLaws.{isCommand-length}
+use Rattle.command.proofs.ProposalLaws.{isProposal-length, readProposal-some, readProposal-none}
 use Rattle.state.specs.declared.Head.{Head}
 use Rattle.state.specs.State.{Kept, Lost, follower, candidate, leader, State}
 use Rattle.state.specs.Legal.{legalState}
@@ -39,18 +38,6 @@ refused-quiet : {n : Next} (s : State) (l : List ℕ) (k : ℕ) → n ≡ refuse
 unfolding leftBy
 refused-quiet s l k e h =
     rw e (record { returned = refl; silent = refl; state-left = rw (ne-eqb k done h) })
-
--- ---- the bytes proposed
-
--- A command is what may be proposed.
-readProposal-command : (bytes : List ℕ) → isCommand bytes ≡ true → readProposal bytes ≡ some (commandOf bytes)
-unfolding readProposal isCommand proposable
-readProposal-command bytes h = rw h
-
--- Other bytes are not.
-readProposal-other : (bytes : List ℕ) → isCommand bytes ≡ false → readProposal bytes ≡ none
-unfolding readProposal isCommand proposable
-readProposal-other bytes h = rw h
 
 -- ---- outcomes
 
@@ -136,34 +123,34 @@ module _ (w : Who) (l : List ℕ) (r : Ready w l) where
         refused-quiet (stateIn l) l wrong-role (propose-role w (stateIn l .kept) (stateIn l .lost) (readProposal bytes) (λ f. role (here ∙ f))) (λ z. omega arith)
 
     -- Outcome 10.
-    pub proposed-bad : h .role ≡ as-leader → isCommand bytes ≡ false → Quiet (propose w (stateIn l) (readProposal bytes)) l bad-command l
+    pub proposed-bad : h .role ≡ as-leader → isProposal bytes ≡ false → Quiet (propose w (stateIn l) (readProposal bytes)) l bad-command l
     proposed-bad role bad =
-        refused-quiet (stateIn l) l bad-command (leading role ∙ rw (readProposal-other bytes bad) (leading-bad w (stateIn l) (confirmedOf (stateIn l .lost)))) (λ z. omega arith)
+        refused-quiet (stateIn l) l bad-command (leading role ∙ rw (readProposal-none bytes bad) (leading-bad w (stateIn l) (confirmedOf (stateIn l .lost)))) (λ z. omega arith)
 
     -- Outcome 11.
-    pub proposed-full : h .role ≡ as-leader → isCommand bytes ≡ true → limit ≤ h .length .0 → Quiet (propose w (stateIn l) (readProposal bytes)) l log-full l
-    proposed-full role legal full =
+    pub proposed-full : h .role ≡ as-leader → isProposal bytes ≡ true → limit ≤ h .length .0 → Quiet (propose w (stateIn l) (readProposal bytes)) l log-full l
+    proposed-full role proposal full =
         refused-quiet (stateIn l) l log-full
-        (leading role ∙ rw (readProposal-command bytes legal) (leading-full w (stateIn l) (confirmedOf (stateIn l .lost)) (commandOf bytes) (omega (arith, long))))
+        (leading role ∙ rw (readProposal-some bytes proposal) (leading-full w (stateIn l) (confirmedOf (stateIn l .lost)) (commandOf bytes) (omega (arith, long))))
         (λ z. omega arith)
 
     -- Outcome 0.
     pub proposed-done :
-        h .role ≡ as-leader → isCommand bytes ≡ true → h .length .0 < limit → {l′ : List ℕ} → l′ ≡ image (propose w (stateIn l) (readProposal bytes) .state)
+        h .role ≡ as-leader → isProposal bytes ≡ true → h .length .0 < limit → {l′ : List ℕ} → l′ ≡ image (propose w (stateIn l) (readProposal bytes) .state)
         → Quiet (propose w (stateIn l) (readProposal bytes)) l done l′
-    proposed-done role legal room left =
+    proposed-done role proposal room left =
         let s = stateIn l in
         let t = leads w (withEntry (s .kept) (commandOf bytes)) (confirmedOf (s .lost)) in
         let p : propose w s (readProposal bytes) ≡ goes t none =
-        leading role ∙ rw (readProposal-command bytes legal) (leading-done w s (confirmedOf (s .lost)) (commandOf bytes) (omega (arith, long))) in
+        leading role ∙ rw (readProposal-some bytes proposal) (leading-done w s (confirmedOf (s .lost)) (commandOf bytes) (omega (arith, long))) in
         done-quiet t l _ p (left ∙ ap (λ (n : Next). image (n .state)) p)
 
-  module _ (bytes : List ℕ) (o : Bytes bytes) (legal : isCommand bytes ≡ true) (role : headIn l .role ≡ as-leader) (room : headIn l .length .0 < limit) where
+  module _ (bytes : List ℕ) (o : Bytes bytes) (proposal : isProposal bytes ≡ true) (role : headIn l .role ≡ as-leader) (room : headIn l .length .0 < limit) where
     -- What is proposed there.
     proposed-is : propose w (stateIn l) (readProposal bytes) ≡ goes (leads w (withEntry (stateIn l .kept) (commandOf bytes)) (confirmedOf (stateIn l .lost))) none
     proposed-is =
         let s = stateIn l in
-        ap (propose w s) (readProposal-command bytes legal)
+        ap (propose w s) (readProposal-some bytes proposal)
         ∙ propose-leads w (s .kept) (s .lost) (some (commandOf bytes)) (sym (ready-role w l r) ∙ role)
         ∙ leading-done w s (confirmedOf (s .lost)) (commandOf bytes) (omega (arith, ready-length w l r))
 
@@ -171,7 +158,7 @@ module _ (w : Who) (l : List ℕ) (r : Ready w l) where
     row-is : rowWords (headIn l .term .0) (wordsAt 0 bytes) ≡ bytesOf rowBytes (entryRow (record { term = stateIn l .kept .term; command = commandOf bytes }) ∷ [])
     unfolding bytesOf wordsAt
     row-is =
-        let sixteen = isCommand-length bytes legal in
+        let sixteen = isProposal-length bytes proposal in
         let small = wordAt-below 4 4 bytes (omega arith) o in
         let c : commandIn (wordsAt 0 bytes) ≡ commandOf bytes = commandIn-at 0 bytes o (omega arith) ∙ ap commandOf (part-last 0 16 bytes (omega arith)) in
         sym (row-words (headIn l .term .0) (wordsAt 0 bytes) (omega arith)) ∙ rw (c, ready-term w l r) (sym (append-nil _))

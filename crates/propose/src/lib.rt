@@ -49,7 +49,7 @@ pub fn propose_at(g: Caller, state: &mut [u8], command: &[u8]) -> u32
     if h.role != kinds::LEADER {
         return kinds::WRONG_ROLE;
     }
-    if !lawful::is_command(command) {
+    if !lawful::is_proposal(command) {
         return kinds::BAD_COMMAND;
     }
     if kinds::places() <= h.length.number() {

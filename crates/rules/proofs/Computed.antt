@@ -7,7 +7,7 @@ use Rattle.text.specs.Line.{lineText, line}
 use Rattle.text.specs.Reader.{onward, literal, whole}
 use Rattle.command.specs.Command.{isGain, isDuration, isZero, isStop, isBuzz, isRamp, legalCommand, commandBytes, commandOf}
 use Rattle.command.specs.Entry.{legalEntries}
-use Rattle.command.specs.Proposal.{proposable, readProposal}
+use Rattle.command.specs.Proposal.{proposable, isProposal, readProposal}
 use Rattle.command.specs.Words.{word, value, part, wordAt, signed, unsigned}
 use Rattle.message.specs.Fields.{ownFields, fields, typeOf, ownNumbers, numbers, countIn, bodyOf, messageOf}
 use Rattle.message.specs.Legal.{legalTo, legalBody, legalMessage}
@@ -26,5 +26,5 @@ use Rattle.kinds.specs.Same.{same}
 
 -- `holds`: whoever unfolds this one has all the definitions below it unfolded.
 unfoldable pub computed : CaseRow → Bool
-unfolding between isSize isHub limit text-room digits decimal moreDigits number hexDigit hex nibble hexByte hexBytes lineText line onward literal whole isGain isDuration isZero isStop isBuzz isRamp legalCommand commandBytes commandOf legalEntries proposable readProposal word value part wordAt signed unsigned ownFields fields typeOf ownNumbers numbers countIn bodyOf messageOf legalTo legalBody legalMessage entriesOf linesText entryText entriesText text typeAmong types lines entry entries message ifLegal read partFrom partTo state-size roleOf votersOf gatheredOf confirmedOf flags bytesOf row headBytes image rowsIn keptIn wordsIn lostIn stateIn same readState readKept all count legalKept legalPair legalCandidate legalLeader legalLost legalState fresh reportedBy isLeader isCandidate termAt says withTerm leads started asks start withEntry proposeLeading propose sends send restart confirmedBy largest majorityPlace vote gather joined counted heardYes fits replaced taken heardAppend recorded heardEnd rule isMisaddressed isRequest isStale staleReply contradicts followerAt afterRaise atOwnTerm receive holds eventOf refusal over written answer receiving acting keptAlone seenBy atState atEvent stepOf
+unfolding between isSize isHub limit text-room digits decimal moreDigits number hexDigit hex nibble hexByte hexBytes lineText line onward literal whole isGain isDuration isZero isStop isBuzz isRamp legalCommand commandBytes commandOf legalEntries proposable isProposal readProposal word value part wordAt signed unsigned ownFields fields typeOf ownNumbers numbers countIn bodyOf messageOf legalTo legalBody legalMessage entriesOf linesText entryText entriesText text typeAmong types lines entry entries message ifLegal read partFrom partTo state-size roleOf votersOf gatheredOf confirmedOf flags bytesOf row headBytes image rowsIn keptIn wordsIn lostIn stateIn same readState readKept all count legalKept legalPair legalCandidate legalLeader legalLost legalState fresh reportedBy isLeader isCandidate termAt says withTerm leads started asks start withEntry proposeLeading propose sends send restart confirmedBy largest majorityPlace vote gather joined counted heardYes fits replaced taken heardAppend recorded heardEnd rule isMisaddressed isRequest isStale staleReply contradicts followerAt afterRaise atOwnTerm receive holds eventOf refusal over written answer receiving acting keptAlone seenBy atState atEvent stepOf
 computed r = holds r

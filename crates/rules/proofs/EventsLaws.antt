@@ -2,7 +2,7 @@
 use Prim.Native.Nat.{ℕ, _+_, _-_, _≤_, _<_}
 use native.Mathlib.Omega.{arith}
 use mathlib.Core.Path.{_≡_, refl, _∙_}
-use mathlib.Core.Bool.{true, false, not, _&&_, _||_}
+use mathlib.Core.Bool.{true, false, not, _||_}
 use mathlib.Core.List.{List, [], _∷_}
 use mathlib.Core.Option.{Option, none, some}
 use borrow.Author.Tests.{eqb-false, leb-true, leb-false, le-leb, ltb-false, not-false}
@@ -10,15 +10,14 @@ use lib.Dec.{leb, ltb, eqb}
 use lib.ListN.{length, drop, replicate, length-append, length-set, length-drop, getD-replicate}
 use lib.Seq.{getD-set-same, drop-set-lt}
 use Rattle.kinds.specs.Sizes.{Who, isHub, hubs-most, term-most, limit}
-use Rattle.command.specs.Command.{Command, legalCommand, command-size, commandOf}
-use Rattle.command.specs.Proposal.{proposable, readProposal}
+use Rattle.command.specs.Command.{Command, legalCommand}
 use Rattle.message.specs.Legal.{legalTo, legalBody}
 use Rattle.state.specs.State.{Kept, Lost, follower, candidate, leader, State}
 use Rattle.state.specs.Legal.{all, legalKept, legalLost, legalState}
 use Rattle.rules.specs.Outcome.{wrong-role, no-term-left, bad-command, log-full, out-of-range}
 use Rattle.rules.specs.Events.{isLeader, len, withTerm, leads, started, asks, start, withEntry, proposeLeading, propose, sends, send, restart}
 use Rattle.rules.specs.Theorems.{Grows, SaysLegal}
-use Rattle.kinds.proofs.BoolLaws.{and-second, and-both, or-first, or-second, cond-either, cond-some}
+use Rattle.kinds.proofs.BoolLaws.{and-both, or-first, or-second, cond-either}
 use Rattle.rules.proofs.CountLaws.{all-weaker, all-set, all-drop, all-replicate, count-set, count-none}
 use Rattle.kinds.proofs.BetweenLaws.{between-in}
 use Rattle.command.proofs.EntryLaws.{legalEntries-wider}
@@ -214,17 +213,3 @@ module _ (w : Who) (i : IsWho w) where
   restart-fair s h =
       goes-fair w s _ none
       (record { legal = follower-legal w _ (legalKept-is (s .kept) h); grows = grows-same (s .kept); writes = writes-none w _ })
-
--- What may be proposed may be held.
-proposable-legal : (c : Command) → proposable c ≡ true → legalCommand c ≡ true
-unfolding proposable
-proposable-legal c h = h
-
--- Bytes that are read as a proposal are a legal command.
-pub readProposal-legal : (bytes : List ℕ) (c : Command) → readProposal bytes ≡ some c → legalCommand c ≡ true
-unfolding readProposal
-readProposal-legal bytes c =
-    let allowed = proposable (commandOf bytes) in
-    let sixteen = eqb (length bytes) command-size in
-    cond-some (λ (x : Command). legalCommand x ≡ true) (sixteen && allowed) (commandOf bytes) c
-    (λ t. proposable-legal (commandOf bytes) (and-second sixteen allowed t))

@@ -27,8 +27,9 @@ use Rattle.kinds.proofs.BoolLaws.{and-first, and-second, not-both, cond-either}
 use Rattle.state.proofs.LegalLaws.{legalLeader-is, legalState-lost}
 use Rattle.rules.proofs.LegalLaws.{isWho, legalMessage-is}
 use Rattle.rules.proofs.MajorityLaws.{majorityPlace-within}
+use Rattle.command.proofs.ProposalLaws.{readProposal-legal}
 use Rattle.rules.proofs.Fair.{Fair}
-use Rattle.rules.proofs.EventsLaws.{start-fair, propose-fair, send-fair, restart-fair, readProposal-legal}
+use Rattle.rules.proofs.EventsLaws.{start-fair, propose-fair, send-fair, restart-fair}
 use Rattle.rules.proofs.ReceiveLaws.{receive-fair, receive-new, afterRaise-done}
 
 -- ---- every event

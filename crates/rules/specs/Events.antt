@@ -75,7 +75,7 @@ unfoldable pub withEntry : Kept → Command → Kept
 withEntry k c =
     record { term = k .term; ballot = k .ballot; chosen = k .chosen; log = k .log ++ (record { term = k .term; command = c } ∷ []) }
 
--- The event at a hub that leads with these confirmed lengths; none is a command that is not 16 bytes or not legal.
+-- The event at a hub that leads with these confirmed lengths; none is what may not be proposed.
 unfoldable pub proposeLeading : Who → State → List ℕ → Option Command → Next
 proposeLeading w s confirmed none = refuses s bad-command
 proposeLeading w s confirmed (some c) =

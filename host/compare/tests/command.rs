@@ -39,7 +39,7 @@ fn compare_read(bytes: &[u8]) {
 /// Numbers at and next to every edge that the rules name.
 const MOTORS: [u32; 6] = [0, 1, 2, 64, 65, 65_535];
 const KINDS: [u32; 5] = [0, 1, 2, 3, 65_535];
-const DURATIONS: [i32; 8] = [i32::MIN, -1, 0, 1, 19, 600_000, 600_001, i32::MAX];
+const DURATIONS: [i32; 9] = [i32::MIN, -1, 0, 1, 19, 20, 600_000, 600_001, i32::MAX];
 const BITS: [u32; 9] =
     [0, 1, 0x3f00_0000, 0x3f7f_ffff, 0x3f80_0000, 0x3f80_0001, 0x7f80_0000, 0x7fc0_0000, 0x8000_0000];
 

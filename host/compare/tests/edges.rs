@@ -250,6 +250,80 @@ fn every_changed_proposal_is_answered_alike() {
     assert!(tally.outcomes[Outcome::Done] >= 200 && tally.outcomes[Outcome::BadCommand] >= 2_000);
 }
 
+/// A command of this kind and duration; its gains, if it has any, are 0.
+fn lasting(kind: u32, duration: u32) -> [u8; 16] {
+    let mut command = [0; 16];
+    put_number(&mut command, 0, 3 << 16 | kind);
+    put_number(&mut command, 4, duration);
+    command
+}
+
+/// The durations from 0 to past two rounds of the low byte, and those next to every other edge.
+fn durations() -> impl Iterator<Item = u32> {
+    (0..=600).chain([65_535, 65_536, 65_555, 599_999, 600_000, 600_001, 0x7fff_ffff, 0x8000_0014, u32::MAX])
+}
+
+/// Of each kind, at every scene and at a full log: a stop, and what is neither too short nor too long, is proposed. Where the hub does not lead
+/// that is told first, and a full log last.
+#[test]
+fn every_duration_is_proposed_alike() {
+    let mut rng = Rng::seeded(seed());
+    let mut tally = Tally::default();
+    for scene in scenes(&mut rng).iter().chain(&full_scenes(&mut rng)) {
+        let state = scene.image.bytes();
+        let room = if scene.image.length() < LIMIT { Outcome::Done } else { Outcome::LogFull };
+        for (kind, duration) in (0..4).flat_map(|kind| durations().map(move |duration| (kind, duration))) {
+            let felt = match kind {
+                0 => duration == 0,
+                1 | 2 => (20..=600_000).contains(&duration),
+                _ => false,
+            };
+            let expected = match scene.image.role {
+                LEADER if felt => room,
+                LEADER => Outcome::BadCommand,
+                _ => Outcome::WrongRole,
+            };
+            let after =
+                tally.compare(&Call { input: &lasting(kind, duration), ..scene.call(PROPOSE, &state) });
+            assert_eq!(after.outcome, expected, "kind {kind}, {duration} ms");
+        }
+    }
+    println!("{tally:?}");
+    assert!(tally.outcomes[Outcome::Done] >= 3_000 && tally.outcomes[Outcome::LogFull] >= 1_000);
+}
+
+/// A leader of the first term holds this command and sends it to hub 2, which takes it, restarts, and tells it to hub 3, which leads with
+/// it at the second. Gives the log that hub 3 has then.
+fn handed_on(tally: &mut Tally, command: [u8; 16]) -> Vec<(u32, [u8; 16])> {
+    let mut step = |own, event, state: &[u8], input: &[u8]| {
+        let after = tally.compare(&Call { n: 3, own, event, a: 2, b: 0, state, input, room: ROOM });
+        assert_eq!(after.outcome, Outcome::Done, "hub {own}, event {event}, {command:02x?}");
+        after
+    };
+    let confirmed = [1, 0, 0, 0, 0, 0, 0];
+    let log = vec![(1, command)];
+    let leads = Image { term: 1, ballot: 1, role: LEADER, confirmed, log, ..Image::default() };
+    let append = step(1, SEND, &leads.bytes(), b"").message;
+    let taken = step(2, RECEIVE, &Image::default().bytes(), &append).state;
+    let back = step(2, RESTART, &taken, b"").state;
+    let asks = step(3, START, &Image { term: 1, ballot: 1, ..Image::default() }.bytes(), b"");
+    let yes = step(2, RECEIVE, &back, &asks.message).message;
+    let led = step(3, RECEIVE, &asks.state, &yes).state;
+    Image::read(&led).expect("a state").log
+}
+
+/// What may not be proposed is held and handed on alike, if it is legal.
+#[test]
+fn short_commands_are_held_alike() {
+    let mut tally = Tally::default();
+    for (kind, duration) in [1, 2].into_iter().flat_map(|kind| (1..20).map(move |duration| (kind, duration)))
+    {
+        let command = lasting(kind, duration);
+        assert_eq!(handed_on(&mut tally, command), [(2, command)]);
+    }
+    assert_eq!(tally.outcomes[Outcome::Done], 6 * 2 * 19);
+}
+
 /// A leader with a log of three, and what each hub has confirmed of it: the digits of `lengths` in base four.
 fn leader_of_three(lengths: u32) -> Image {
     let log = rows_of_bytes(&rows(3, 1, 2));

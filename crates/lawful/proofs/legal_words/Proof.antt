@@ -6,7 +6,7 @@ use Rattle.lawful.proofs.legal_words.Tie as tie
 
 halves : tie.Need-returns
 unfolding ofNumbers ofWords
-halves c = c .is-legal .ensures
+halves c = search needs
 
 pub legal-words-spec : {M : Type 1} → statement M
 legal-words-spec = tie.close (tie.spec (λ c κs. search needs) halves)

@@ -3,7 +3,7 @@ use mathlib.Core.Path.{sym, _∙_, ap}
 use native.Mathlib.Omega.{arith}
 use lib.ListN.{length}
 use borrow.Author.Needs.{needs}
-use Rattle.command.proofs.AnswersLaws.{isCommand-length}
+use Rattle.command.proofs.ProposalLaws.{isProposal-length}
 use Rattle.state.specs.declared.Head.{Head}
 use Rattle.state.specs.Image.{state-size}
 use Rattle.promise.proofs.PromiseLaws.{ready-size, ready-who}
@@ -13,7 +13,7 @@ use Rattle.propose.proofs.add_entry.Tie as tie
 
 -- The command has 16 bytes.
 sixteen : tie.Need-words-at-requires
-sixteen c κs = omega (arith, isCommand-length _ (c .before .before .before .before .pre .legal))
+sixteen c κs = omega (arith, isProposal-length _ (c .before .before .before .before .pre .proposal))
 
 -- The row lies within the table.
 inside : tie.Need-put-row-requires
@@ -44,7 +44,7 @@ added c =
     let at-slice = at-row .before .before in
     let start = at-slice .before .before in
     let pre = start .pre in
-    propose-steps _ (start .args .state .now) (pre .ready) (start .args .command .now) (λ i. at-slice .shared-slice-known .given i .fits) (pre .legal)
+    propose-steps _ (start .args .state .now) (pre .ready) (start .args .command .now) (λ i. at-slice .shared-slice-known .given i .fits) (pre .proposal)
     (sym (ap (λ (h : Head). h .role) (pre .head)) ∙ pre .role) (omega (arith, ap (λ (h : Head). h .length .0) (pre .head), pre .room))
     (pre .head) (at-row .row-after .ensures) (at-words .words-at .ensures) (at-put-row .put-row .ensures) (at-grow .grow .ensures) (c .before .before .write-head .ensures)
 

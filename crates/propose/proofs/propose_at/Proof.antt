@@ -16,14 +16,14 @@ head-there c κs = ready-long _ _ (c .before .before .before .pre)
 other-role : tie.Need-returns
 other-role c = proposed-wrong-role _ _ (c .before .before .before .before .before .before .pre) _ (c .before .before .read-head .ensures) (c .if1 .taken)
 
--- Bytes that are no command.
-no-command : tie.Need-returns-2
-no-command c = proposed-bad _ _ (c .before .before .before .before .before .before .before .before .pre) _ (c .before .before .before .before .read-head .ensures) (c .before .before .if1 .left) (sym (c .before .is-command .ensures) ∙ not-true _ (c .if2 .taken))
+-- Bytes that may not be proposed.
+no-proposal : tie.Need-returns-2
+no-proposal c = proposed-bad _ _ (c .before .before .before .before .before .before .before .before .pre) _ (c .before .before .before .before .read-head .ensures) (c .before .before .if1 .left) (sym (c .before .is-proposal .ensures) ∙ not-true _ (c .if2 .taken))
 
 -- A full log.
 full : tie.Need-returns-3
 full c =
-    proposed-full _ _ (c .before .before .before .before .before .before .before .before .before .before .before .pre) _ (c .before .before .before .before .before .before .before .read-head .ensures) (c .before .before .before .before .before .if1 .left) (sym (c .before .before .before .before .is-command .ensures) ∙ not-false _ (c .before .before .before .if2 .left))
+    proposed-full _ _ (c .before .before .before .before .before .before .before .before .before .before .before .pre) _ (c .before .before .before .before .before .before .before .read-head .ensures) (c .before .before .before .before .before .if1 .left) (sym (c .before .before .before .before .is-proposal .ensures) ∙ not-false _ (c .before .before .before .if2 .left))
     (omega (arith, c .before .number .ensures, c .before .before .places .ensures, c .if3 .taken))
 
 -- What is needed to add it.
@@ -34,16 +34,16 @@ may-add c κs =
       head = c .before .before .before .before .before .before .before .before .read-head .ensures;
       role = c .before .before .before .before .before .before .if1 .left;
       room = omega (arith, c .before .before .number .ensures, c .before .before .before .places .ensures, c .before .if3 .left);
-      legal = sym (c .before .before .before .before .before .is-command .ensures) ∙ not-false _ (c .before .before .before .before .if2 .left);
+      proposal = sym (c .before .before .before .before .before .is-proposal .ensures) ∙ not-false _ (c .before .before .before .before .if2 .left);
     }
 
 -- It is added.
 added : tie.Need-returns-4
 added c =
-    proposed-done _ _ (c .before .before .before .before .before .before .before .before .before .before .before .before .before .before .before .pre) _ (c .before .before .before .before .before .before .before .before .before .before .before .read-head .ensures) (c .before .before .before .before .before .before .before .before .before .if1 .left) (sym (c .before .before .before .before .before .before .before .before .is-command .ensures) ∙ not-false _ (c .before .before .before .before .before .before .before .if2 .left))
+    proposed-done _ _ (c .before .before .before .before .before .before .before .before .before .before .before .before .before .before .before .pre) _ (c .before .before .before .before .before .before .before .before .before .before .before .read-head .ensures) (c .before .before .before .before .before .before .before .before .before .if1 .left) (sym (c .before .before .before .before .before .before .before .before .is-proposal .ensures) ∙ not-false _ (c .before .before .before .before .before .before .before .if2 .left))
     (omega (arith, c .before .before .before .before .before .number .ensures, c .before .before .before .before .before .before .places .ensures, c .before .before .before .before .if3 .left)) (c .before .before .add-entry .ensures)
 
 pub propose-at-spec : {M : Type 1} → statement M
 propose-at-spec =
     tie.close
-    (tie.spec head-there (λ c. search needs) other-role (λ c κs. search needs) (λ c. search needs) no-command (λ c κs. search needs) (λ c κs. search needs) (λ c. search needs) full may-add (λ c. search needs) added)
+    (tie.spec head-there (λ c. search needs) other-role (λ c κs. search needs) (λ c. search needs) no-proposal (λ c κs. search needs) (λ c κs. search needs) (λ c. search needs) full may-add (λ c. search needs) added)

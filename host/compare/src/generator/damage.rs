@@ -111,7 +111,7 @@ pub fn command(rng: &mut Rng, bytes: &mut [u8]) {
     match rng.below(5) {
         0 => bytes[..2].copy_from_slice(&rng.pick(&[0u16, 1, 64, 65, 0x0101]).to_be_bytes()),
         1 => bytes[2..4].copy_from_slice(&rng.pick(&[0u16, 1, 2, 3, 0x0100]).to_be_bytes()),
-        2 => put_number(bytes, 4, rng.pick(&[0, 1, 600_000, 600_001, 0x8000_0000, u32::MAX])),
+        2 => put_number(bytes, 4, rng.pick(&[0, 1, 19, 20, 600_000, 600_001, 0x8000_0000, u32::MAX])),
         3 => put_number(bytes, 8, rng.pick(&[0, 1, 0x3f80_0000, 0x3f80_0001, 0x7fc0_0000, 0x8000_0000])),
         _ => put_number(bytes, 12, rng.pick(&[0, 1, 0x3f80_0000, 0x3f80_0001, 0x7fc0_0000, 0x8000_0000])),
     }

@@ -15,6 +15,7 @@ use image::{
     BALLOT_AT, Command, Image, LEADER, LENGTH_AT, PLACES, ROLE_AT, STATE_SIZE, TERM_AT, confirmed_at,
     number_at, put_number,
 };
+use independent::command::FELT_LEAST;
 use independent::{Hub, Outcome};
 use std::collections::VecDeque;
 
@@ -86,6 +87,9 @@ pub const TURNS: u64 = 800;
 
 /// How many of the last steps are told when a run fails.
 const TRAIL: usize = 30;
+
+/// The shortest buzz that may be proposed, in ms.
+const LEAST: u32 = FELT_LEAST as u32;
 
 /// A group of hubs with their network.
 pub struct Home {
@@ -281,7 +285,7 @@ impl Home {
             self.proposals += 1;
             let mut command = command(self.proposals);
             if self.rng.below(60) == 0 {
-                command[1] = 0; // no such motor
+                spoil(self.proposals, &mut command);
             }
             self.call(hub, PROPOSE, 0, 0, &command)?;
         }
@@ -446,9 +450,17 @@ fn is_contested(before: &[u8], message: &Message) -> bool {
     message.kind == Kind::VoteYes && met.any(|(held, _)| held.0 != ballot)
 }
 
-/// A legal command, another for each number: a buzz with gain 0.5.
+/// A command that may be proposed, another for each number: a buzz with gain 0.5.
 fn command(number: u32) -> Command {
     let mut bytes = [0, 1 + (number % 64) as u8, 0, 1, 0, 0, 0, 0, 0x3f, 0, 0, 0, 0, 0, 0, 0];
-    put_number(&mut bytes, 4, 1 + number / 64);
+    put_number(&mut bytes, 4, LEAST + number / 64);
     bytes
+}
+
+/// Makes it one that may not be proposed: no such motor, or too short to feel, by turns.
+fn spoil(number: u32, command: &mut Command) {
+    match number % 2 {
+        0 => command[1] = 0,
+        _ => put_number(command, 4, LEAST - 1),
+    }
 }

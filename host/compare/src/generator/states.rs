@@ -126,8 +126,11 @@ pub fn command(rng: &mut Rng) -> Command {
     bytes
 }
 
+/// Up to and from the shortest that may be proposed, also those whose low byte alone would be too short.
+const DURATIONS: [u32; 6] = [1, 19, 20, 256, 275, 276];
+
 fn duration(rng: &mut Rng) -> u32 {
-    1 + at_most(rng, 599_999)
+    if rng.one_in(3) { rng.pick(&DURATIONS) } else { 1 + at_most(rng, 599_999) }
 }
 
 fn gain(rng: &mut Rng) -> u32 {

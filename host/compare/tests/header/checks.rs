@@ -9,12 +9,13 @@ use std::ops::Range;
 
 type Check = fn(&Numbers) -> Result<(), String>;
 
-const CHECKS: [Check; 11] = [
+const CHECKS: [Check; 12] = [
     the_version_is_the_librarys,
     sizes_are_the_librarys,
     a_command_has_its_size,
     a_command_has_its_kinds,
     a_command_has_its_numbers,
+    a_proposal_lasts_so_long,
     a_message_has_its_size,
     a_message_has_its_numbers,
     an_entry_has_its_row,
@@ -84,6 +85,19 @@ fn a_command_has_its_numbers(header: &Numbers) -> Result<(), String> {
     same("the ramp read", read_command(&bytes, &mut numbers), Outcome::Done)?;
     let told = [("MOTOR", 3), ("KIND", ramp), ("DURATION", 250), ("A", HALF), ("B", WHOLE)];
     told.into_iter().try_for_each(|(name, value)| same(name, Some(&value), numbers.get(header.size(name)?)))
+}
+
+/// A shorter buzz or ramp is legal, and not proposed.
+fn a_proposal_lasts_so_long(header: &Numbers) -> Result<(), String> {
+    let least = header.get("FELT_LEAST")? as i32;
+    for kind in [header.get("BUZZ")?, header.get("RAMP")?] {
+        for (duration, outcome) in [(least - 1, Outcome::BadCommand), (least, Outcome::Done)] {
+            let mut bytes = [0; 16];
+            same("a command", write_command(3, kind, duration, HALF, 0, &mut bytes), Outcome::Done)?;
+            same("FELT_LEAST", Hub::leader(header)?.outcome("PROPOSE", &bytes)?, outcome)?;
+        }
+    }
+    Ok(())
 }
 
 // ---- messages
