@@ -1,8 +1,8 @@
 -- Demand 3, proved of the hubs, over the very definition of the step that the exported function's promise cites: all that `engine`
 -- claims of an engine (`demand-3`; its parts `simulation`, `explained`, `agreement`, `stability`, `validity`); every reported command a
--- hub took from a client (`somebody-proposed`); what C is handed is what the theorem speaks of (`handed-is-reported`,
--- `counted-is-reported`, passed on here) and agrees (`handed-agree`); and an honest hub is never told 2, 4 or 7
--- (`legal-states`, `never-bad-state`, `legal-messages`, `never-contradicted`). Assumes nothing.
+-- hub took from a client (`somebody-proposed`), and it may be proposed (`only-proposable`); what C is handed is what the theorem
+-- speaks of (`handed-is-reported`, `counted-is-reported`, passed on here) and agrees (`handed-agree`); and an honest hub is never told
+-- 2, 4 or 7 (`legal-states`, `never-bad-state`, `legal-messages`, `never-contradicted`). Assumes nothing.
 use Prim.Native.Nat.{ℕ}
 use native.Mathlib.Omega.{arith}
 use mathlib.Core.Path.{_≡_, refl, sym, _∙_, ap}
@@ -14,14 +14,17 @@ use lib.ListN.{take, drop}
 use lib.Seq.{take-append-seam}
 use Rattle.kinds.specs.Sizes.{Group, isGroup, hubOf}
 use Rattle.command.specs.Command.{Command, command-size, commandBytes}
+use Rattle.command.specs.Proposal.{proposable}
 use Rattle.command.proofs.CommandLaws.{commandBytes-length}
+use Rattle.command.proofs.ProposalLaws.{readProposal-proposable}
 use Rattle.state.specs.State.{Kept, State}
 use Rattle.state.specs.Legal.{legalState}
 use Rattle.state.specs.Image.{image, readState}
 use Rattle.state.proofs.ImageLaws.{readState-image, readKept-image}
 use Rattle.rules.specs.Outcome.{bad-state, bad-message, contradicting}
-use Rattle.rules.specs.Step.{refusal, answer}
+use Rattle.rules.specs.Step.{Event, start-event, propose-event, send-event, restart-event, receive-event, eventOf, refusal, answer}
 use Rattle.rules.specs.Happens.{Occasion, to-receive, happens}
+use Rattle.kinds.proofs.BoolLaws.{none-some}
 use Rattle.paxos.proofs.Member.{clash, nothing}
 use Rattle.views.specs.Hall.{blank}
 use Rattle.engine.specs.Home.{Reached}
@@ -29,11 +32,12 @@ use Rattle.engine.specs.Safe.{Simulation, Explained, Agreement, Stability, Vali
 use Rattle.engine.specs.Upholds.{Upholds}
 use Rattle.engine.specs.Written.{WritesOut}
 use Rattle.engine.proofs.Upholds.{Over, upholds}
+use Rattle.engine.proofs.OrdersLaws.{orders-all}
 use Rattle.engine.proofs.Theorems as engine
 use Rattle.home.specs.View.{viewOf, viewIn}
-use Rattle.home.specs.Hub.{callFor, hub-engine, HomeOfHubs, hub-rules, hub-writing}
+use Rattle.home.specs.Hub.{callFor, commandFor, hub-engine, HomeOfHubs, hub-rules, hub-writing}
 use Rattle.home.specs.Facts.{hub-facts}
-use Rattle.home.specs.Safe.{Demand3, SomebodyProposed, HandedAgree, LegalStates, NeverBadState, LegalMessages, NeverContradicted}
+use Rattle.home.specs.Safe.{Demand3, SomebodyProposed, OnlyProposable, HandedAgree, LegalStates, NeverBadState, LegalMessages, NeverContradicted}
 use Rattle.home.proofs.Bytes.{Refused, unknown, short, unread, step-either, step-receives}
 use Rattle.home.proofs.Events.{hub-kept}
 use Rattle.home.proofs.Deeds.{sight, becomes}
@@ -97,6 +101,21 @@ demand-3 G group =
 -- The machine has no command of its own: a hub took every reported one from a client.
 pub somebody-proposed : SomebodyProposed
 somebody-proposed G H h p c r a = ⊎-elim (λ m. m) (λ own. clash (cc)) (validity G (r .group) H h p c r a)
+
+-- No event proposes what may not be proposed.
+commandFor-proposable : (e : Option Event) (input : List ℕ) (c : Command) → commandFor e input ≡ some c → proposable c ≡ true
+unfolding commandFor
+commandFor-proposable none input c h = none-some h
+commandFor-proposable (some start-event) input c h = none-some h
+commandFor-proposable (some propose-event) input c h = readProposal-proposable input c h
+commandFor-proposable (some send-event) input c h = none-some h
+commandFor-proposable (some restart-event) input c h = none-some h
+commandFor-proposable (some receive-event) input c h = none-some h
+
+-- Every reported command may be proposed.
+pub only-proposable : OnlyProposable
+only-proposable G H h p c r a =
+    orders-all G (λ (x : Command). proposable x ≡ true) (λ d. commandFor-proposable (eventOf (d .event)) (d .input)) H r c (somebody-proposed G H h p c r a)
 
 -- ---- what C is told
 

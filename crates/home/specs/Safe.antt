@@ -9,6 +9,7 @@ use mathlib.Core.Option.{some}
 use lib.ListN.{length, take, drop}
 use Rattle.kinds.specs.Sizes.{Group, isGroup, hubOf}
 use Rattle.command.specs.Command.{Command, command-size, commandBytes}
+use Rattle.command.specs.Proposal.{proposable}
 use Rattle.message.specs.Message.{Message}
 use Rattle.message.specs.Text.{read}
 use Rattle.state.specs.State.{State}
@@ -29,6 +30,11 @@ Demand3 = (G : Group) → isGroup G ≡ true → Safety hub-engine G
 -- A hub of the group took every reported command from a client, with outcome 0.
 abbrev pub SomebodyProposed : Type 0
 SomebodyProposed = (G : Group) (H : HomeOfHubs) (h p : ℕ) (c : Command) → Reached hub-engine G H → Reports hub-engine H h p c → c ∈ H .orders
+
+-- It is one that may be proposed: no hub ever reports a buzz or ramp too short to feel.
+abbrev pub OnlyProposable : Type 0
+OnlyProposable =
+    (G : Group) (H : HomeOfHubs) (h p : ℕ) (c : Command) → Reached hub-engine G H → Reports hub-engine H h p c → proposable c ≡ true
 
 -- ---- what C is told
 
