@@ -4,11 +4,14 @@
 //! and `KRITNAMON_SEED` for another one. Each home has a seed of its own, which is printed if it fails: with it as
 //! `KRITNAMON_SEED` and `KRITNAMON_STEPS=1` that home alone is run.
 
-use compare::binding::call::{Step, exported, independent};
+use compare::binding::call::{Call, PROPOSE, Step, exported, independent};
 use compare::checker::Checker;
 use compare::generator::home::{Home, TURNS, Tally, size};
 use compare::generator::rng::seed;
+use image::{Image, LENGTH_AT, ROW_SIZE, number_at, put_number, row_at};
 use independent::Outcome;
+use independent::command::{self, FELT_LEAST};
+use std::sync::atomic::{AtomicU64, Ordering};
 
 /// How many steps are taken where nothing else is asked for.
 const STEPS: u64 = 300_000;
@@ -73,4 +76,52 @@ fn homes_of_the_proved_library_are_multipaxos() {
 #[test]
 fn homes_of_the_independent_program_are_multipaxos() {
     assert_eventful(&run(independent));
+}
+
+// ---- two versions
+
+/// Whether these bytes are a legal command that is too short to be proposed.
+fn is_short(bytes: &[u8]) -> bool {
+    command::read(bytes).is_ok_and(|command| (1..FELT_LEAST).contains(&command.duration))
+}
+
+/// A hub of version 1.0.0, to which a client may propose any legal command: the independent program, with a command that is too short made
+/// longer on the way in, and short again where it was stored.
+fn older(call: &mut Call) -> (Outcome, u32) {
+    if call.event != PROPOSE || !is_short(call.input) {
+        return independent(call);
+    }
+    let mut longer = call.input.to_vec();
+    put_number(&mut longer, 4, FELT_LEAST as u32);
+    let answer = independent(&mut call.with_input(&longer));
+    if answer.0 == Outcome::Done {
+        let last = row_at(number_at(call.state, LENGTH_AT));
+        call.state[last + 4..last + ROW_SIZE].copy_from_slice(call.input);
+    }
+    answer
+}
+
+/// How often a step of the proved library left a state that reports a command too short to be proposed.
+static REPORTED_SHORT: AtomicU64 = AtomicU64::new(0);
+
+/// Hubs 1 and 2 are of the older version, the others are the proved library.
+fn of_two_versions(call: &mut Call) -> (Outcome, u32) {
+    if call.own.0 <= 2 {
+        return older(call);
+    }
+    let answer = exported(call);
+    let reports =
+        Image::kept(call.state).is_some_and(|state| state.reported().any(|command| is_short(&command)));
+    REPORTED_SHORT.fetch_add(reports.into(), Ordering::Relaxed);
+    answer
+}
+
+/// What hubs of version 1.0.0 were told to propose comes to the others, is kept, sent, led with and reported, and all is well.
+#[test]
+fn homes_of_two_versions_are_multipaxos() {
+    let all = run(of_two_versions);
+    assert_eventful(&all);
+    let reported = REPORTED_SHORT.load(Ordering::Relaxed);
+    println!("{reported} steps with a short command reported");
+    assert!(all.steps < STEPS || reported > 10_000, "short commands are reported");
 }
