@@ -201,6 +201,31 @@ static void kept_parts(void)
     CHECK(memcmp(states[1], states[2], sizeof states[1]) == 0);
 }
 
+static void buzz(int32_t duration, uint8_t *command)
+{
+    CHECK(kritnamon_write_command(3, KRITNAMON_BUZZ, duration, 0, 0, command, KRITNAMON_COMMAND_SIZE) == KRITNAMON_DONE);
+}
+
+/* Hub 1 gets a command that is too short to be proposed, in an append of hub 5: it keeps it, reports it, leads with it and sends it, and
+ * takes none such from a client. */
+static void short_command(void)
+{
+    const uint32_t append[] = {KRITNAMON_APPEND, 1, 5, 1, 0, 0, 1, 1};
+    uint8_t entry[KRITNAMON_ROW_SIZE] = {0, 0, 0, 1}, felt[KRITNAMON_COMMAND_SIZE];
+    uint8_t *brief = entry + 4;
+
+    buzz(KRITNAMON_FELT_LEAST - 1, brief);
+    hear(1, KRITNAMON_SECOND(kritnamon_write_message(append, KRITNAMON_MESSAGE_NUMBERS, entry, sizeof entry, out, sizeof out)));
+    CHECK(chosen(1) == 1 && reports(1, 1, brief));
+    elect(1, 2, 3);
+    CHECK(kritnamon_step(HUBS, 1, KRITNAMON_PROPOSE, 0, 0, states[1], KRITNAMON_STATE_SIZE, brief, KRITNAMON_COMMAND_SIZE, out, sizeof out)
+          == KRITNAMON_BAD_COMMAND);
+    buzz(KRITNAMON_FELT_LEAST, felt);
+    CHECK(propose(1, felt) == 2);
+    send_to(1, 2);
+    CHECK(holds(2, 1, brief) && holds(2, 2, felt));
+}
+
 /* ---- The stack. */
 
 #define STACK_MOST 2048u /* as kritnamon.h has it */
@@ -263,6 +288,7 @@ static const struct {
     {"repeated-proposal", repeated_proposal},
     {"equal-proposals", equal_proposals},
     {"kept-parts", kept_parts},
+    {"short-command", short_command},
     {"stack-use", stack_use},
 };
 

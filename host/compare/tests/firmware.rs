@@ -82,6 +82,11 @@ fn a_restart_looks_at_the_kept_parts_alone() {
 }
 
 #[test]
+fn a_short_command_is_held_and_not_proposed() {
+    run("short-command");
+}
+
+#[test]
 fn a_call_takes_less_stack_than_the_header_says() {
     run("stack-use");
 }
