@@ -1,4 +1,4 @@
-//! One hub's step, and the reading and writing of its messages and commands, from the text of document 01 alone (see docs/RULES.md).
+//! One hub's step, and the reading and writing of its messages and commands, from the text of documents 01 and 02 alone (see docs/RULES.md).
 //! No input or output, no clock, no allocation, no state of its own: the same bytes in give the same bytes out.
 
 #![forbid(unsafe_code)]
