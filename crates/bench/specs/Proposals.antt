@@ -7,6 +7,7 @@ use mathlib.Core.Path.{_≡_}
 use lib.IntN.{pos}
 use lib.ListN.{replicate}
 use Rattle.kinds.specs.Outcome.{done}
+use Rattle.kinds.specs.Sizes.{limit}
 use Rattle.text.specs.Ascii.{ascii}
 use Rattle.command.specs.Command.{Command, commandBytes}
 use Rattle.command.specs.Entry.{Entry}
@@ -41,9 +42,9 @@ takes c = does 0 1 2 elected (commandBytes c) (withOne c) []
 abbrev pub refuses10 : Command → CaseRow
 refuses10 c = refused 10 1 2 elected (commandBytes c) 10
 
--- A leader with 256 entries.
+-- A leader whose log is full.
 abbrev pub fullLeader : State
-fullLeader = leaderWith (kept 1 1 0 (replicate 256 (buzzEntry 1))) (confirmed 256 0)
+fullLeader = leaderWith (kept 1 1 0 (replicate limit (buzzEntry 1))) (confirmed limit 0)
 
 -- ---- held
 
