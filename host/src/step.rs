@@ -247,9 +247,10 @@ fn obey(state: &mut State, message: &Message, entries: &[u8], out: &mut [u8]) ->
     }
 }
 
-/// The whole log's ballot decides, never the last entry's term: that could lose a chosen command.
+/// The whole log's ballot decides, never the last entry's term: that could lose a chosen command. An empty log has nothing to lose, whatever
+/// its ballot, and tells ballot 0.
 fn vote_request(state: &State, from: Hub, last: Place, ballot: Term, out: &mut [u8]) -> Effect {
-    let own = state.head.ballot;
+    let own = if state.head.length == Place(0) { Term(0) } else { state.head.ballot };
     if own > ballot {
         return Effect::Wrote(write(state, from, Body::VoteNo, &[], out));
     }

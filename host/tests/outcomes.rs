@@ -406,6 +406,22 @@ fn vote_rule() {
 }
 
 #[test]
+fn an_empty_log_says_yes() {
+    let empty = follower(4, 3, 0, &[]);
+    for (last, ballot) in [(0, 0), (0, 2), (7, 2), (0, 3), (256, 4)] {
+        let asked = request(5, 1, last, ballot);
+        done(&TWO.receive(&empty, &asked), &follower(5, 3, 0, &[]), &yes(5, 2, 1, last, 0, &[]));
+    }
+    let leads = leader(4, 0, &[], &[]);
+    done(&TWO.receive(&leads, &request(6, 3, 0, 0)), &follower(6, 4, 0, &[]), &yes(6, 2, 3, 0, 0, &[]));
+    // The hub that asked takes it, whatever its own ballot, and asks with that one.
+    done(&ONE.receive(&candidate(5, 0, &[], &[1]), &yes(5, 2, 1, 0, 0, &[])), &leader(5, 0, &[], &[]), "");
+    done(&ONE.start(&empty), &candidate(5, 3, &[], &[1]), &request(5, 1, 0, 3));
+    // Stale is stale.
+    assert_eq!(TWO.receive(&empty, &request(4, 1, 0, 0)).outcome, 6);
+}
+
+#[test]
 fn gathering() {
     let seven = At(7, 1);
     let asks = candidate(9, 6, &[1], &[1]);

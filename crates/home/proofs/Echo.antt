@@ -7,7 +7,7 @@ use mathlib.Core.Logic.{_≢_}
 use mathlib.Core.Bool.{true, false, not, _&&_, _||_}
 use mathlib.Core.List.{List}
 use mathlib.Core.Option.{Option, none, some}
-use borrow.Author.Tests.{eqb-false, eq-eqb, leb-true, ltb-true, ltb-false}
+use borrow.Author.Tests.{eqb-false, eq-eqb, ltb-true, ltb-false}
 use lib.Dec.{eqb, leb, ltb}
 use lib.ListN.{length}
 use Rattle.kinds.specs.Sizes.{Group, Who, hubOf, isHub, majority, limit, term-most}
@@ -23,6 +23,7 @@ use Rattle.rules.specs.Receive.{
   Effect,
   idle,
   effect,
+  ballotTold,
   vote,
   counted,
   heardYes,
@@ -43,6 +44,7 @@ use Rattle.rules.specs.Receive.{
 }
 use Rattle.rules.specs.Happens.{Occasion, to-start, to-propose, to-send, to-restart, to-receive, happens}
 use Rattle.kinds.proofs.BoolLaws.{or-first, or-second, cond-either}
+use Rattle.rules.proofs.VoteLaws.{vote-either}
 use Rattle.paxos.specs.Put.{put}
 use Rattle.paxos.proofs.Member.{clash}
 use Rattle.paxos.proofs.PutLaws.{put-same, put-other}
@@ -229,16 +231,17 @@ module _ (G : Group) (h : ℕ) (states : ℕ → State) where
     vote-polite :
         (last ballot : ℕ) → Stood (states from) t last ballot
         → Polite states h (record { outcome = 0; state = followerAt s t; message = some (says w (followerAt s t) from (vote (followerAt s t .kept) last ballot)) })
-    unfolding vote says followerAt withTerm
+    unfolding says followerAt withTerm
     vote-polite last ballot x =
+        let told = ballotTold (len s) (s .kept .ballot) in
         record {
           stays = other-term s (followerAt s t) up;
           wrote =
-              cond-either (Echoes (put states h (followerAt s t)) t h from) (leb (s .kept .ballot) ballot)
-              (λ e.
-              subst (λ (y : State). Stood y t last (s .kept .ballot)) (sym (put-other states h (followerAt s t) from ne))
-              (stood-low (states from) t last ballot (s .kept .ballot) (leb-true (s .kept .ballot) ballot e) x))
-              (λ e. tt);
+              vote-either (followerAt s t .kept) last (Echoes (put states h (followerAt s t)) t h from) ballot
+              (λ low.
+              subst (λ (y : State). Stood y t last told) (sym (put-other states h (followerAt s t) from ne))
+              (stood-low (states from) t last ballot told low x))
+              (λ high. tt);
         }
 
     higher-polite : (to : ℕ) (b : Body) → Echoes states t from to b → PoliteBy states h (followerAt s t) (rule w (followerAt s t) from b)

@@ -1,15 +1,17 @@
 -- What a log counts as at each place. Assumes nothing.
 use Prim.Native.Nat.{ℕ, zero, suc, _<_}
 use native.Mathlib.Omega.{arith}
-use mathlib.Core.Path.{_≡_, refl, ap, fun-ext}
+use mathlib.Core.Path.{_≡_, refl, sym, _∙_, ap, fun-ext}
 use mathlib.Core.Bool.{Bool, true, false}
-use mathlib.Core.List.{List, []}
+use mathlib.Core.List.{List, [], _∷_}
 use mathlib.Core.Option.{Option, none, some}
 use lib.ListN.{length, getElem?}
 use Rattle.kinds.specs.Sizes.{between}
 use Rattle.command.specs.Command.{Command}
 use Rattle.command.specs.Entry.{Entry}
 use Rattle.state.specs.State.{fresh}
+use Rattle.rules.specs.Receive.{ballotTold}
+use Rattle.rules.proofs.VoteLaws.{ballotTold-own}
 use Rattle.kinds.proofs.BetweenLaws.{between-in, between-true}
 use Rattle.paxos.specs.Paxos.{never, at}
 use Rattle.paxos.proofs.Member.{clash}
@@ -52,6 +54,17 @@ unfolding holdsOf
 holds-none b log zero lt = refl
 holds-none b log (suc i) lt = ap (entryCounts b) (at-out log i (omega arith))
 
+-- An empty log holds nothing, whatever its ballot.
+nothing-held : (b p : ℕ) → never ≡ holdsOf b [] p
+unfolding holdsOf
+nothing-held b zero = refl
+nothing-held b (suc i) = refl
+
+-- So what a log holds it holds at the ballot that its hub tells.
+pub holds-told : (b : ℕ) (log : List Entry) → holdsOf b log ≡ holdsOf (ballotTold (length log) b) log
+holds-told b [] = fun-ext (λ p. sym (nothing-held b p) ∙ nothing-held (ballotTold 0 b) p)
+holds-told b (e ∷ log) = ap (λ (told : ℕ). holdsOf told (e ∷ log)) (sym (ballotTold-own (length (e ∷ log)) b (omega arith)))
+
 -- A place that is reported is i + 1 with i below the count of chosen places.
 pub said-lt : (n p : ℕ) → between 1 n p ≡ true → (i : ℕ) × (p ≡ suc i) × (i < n)
 said-lt n zero h = absurd (omega (arith, between-true 1 n 0 h .0))
@@ -63,13 +76,9 @@ lt-said n i lt = between-in 1 n (suc i) (omega arith) (omega arith)
 
 -- A fresh hub's view is blank.
 pub fresh-view : blank ≡ viewOf (fresh .kept)
-unfolding fresh holdsOf
-fresh-view = λ i. record { term = 0; holds = fun-ext nothing-held i; says = fun-ext nothing-said i }
+unfolding fresh
+fresh-view = λ i. record { term = 0; holds = fun-ext (nothing-held 0) i; says = fun-ext nothing-said i }
   where
-    nothing-held : (p : ℕ) → never ≡ holdsOf 0 [] p
-    nothing-held zero = refl
-    nothing-held (suc i) = refl
-
     nothing-said : (p : ℕ) → false ≡ between 1 0 p
     nothing-said p = by (between 1 0 p) refl
       where

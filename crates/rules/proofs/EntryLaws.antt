@@ -59,6 +59,12 @@ legalEntries-drop low high (suc n) (e ∷ es) h =
     let f = legalEntries-first low high e es h in
     legalEntries-drop (e .term) high n es (f .rest)
 
+-- The rest, within the bounds of the whole.
+pub legalEntries-after : (low high n : ℕ) (es : List Entry) → legalEntries low high es ≡ true → legalEntries low high (drop n es) ≡ true
+legalEntries-after low high n es h =
+    legalEntries-wider (lastTerm low (take n es)) low high high (drop n es) (lastTerm-from low high (take n es) (legalEntries-take low high n es h))
+    (omega arith) (legalEntries-drop low high n es h)
+
 -- ---- the term at a place
 
 -- The term at a place is the last up to there.

@@ -7,6 +7,7 @@ pub mod EventsLaws
 pub mod EndLaws
 pub mod AppendLaws
 pub mod GatherLaws
+pub mod VoteLaws
 pub mod ReceiveLaws
 pub mod Theorems
 pub mod StepLaws

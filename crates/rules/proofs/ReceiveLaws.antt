@@ -6,8 +6,8 @@ use mathlib.Core.Logic.{_↔_}
 use mathlib.Core.Bool.{true, false, not, _&&_, _||_}
 use mathlib.Core.Option.{none, some}
 use borrow.Author.Tests.{eqb-true, eqb-false, le-leb, ltb-true, ltb-false}
-use lib.Dec.{leb, ltb, eqb}
-use lib.ListN.{length, take, length-drop}
+use lib.Dec.{ltb, eqb}
+use lib.ListN.{length}
 use Rattle.kinds.specs.Sizes.{Who, between, hubs-most, limit}
 use Rattle.message.specs.Message.{Message, Body, vote-request, vote-yes, vote-no, append, append-yes, append-no}
 use Rattle.message.specs.Legal.{legalTo, legalBody}
@@ -19,11 +19,10 @@ use Rattle.rules.specs.Receive.{Effect, idle, effect, vote, rule, isMisa
 use Rattle.rules.specs.Theorems.{Grows, SaysLegal, ChangesNothing, NothingNew}
 use Rattle.kinds.proofs.BoolLaws.{and-first, and-either, or-either, or-first, or-second, cond-either, not-both}
 use Rattle.kinds.proofs.BetweenLaws.{between-in}
-use Rattle.command.proofs.EntryLaws.{legalEntries-wider}
-use Rattle.rules.proofs.EntryLaws.{legalEntries-drop, lastTerm, lastTerm-from, legalEntries-take}
+use Rattle.rules.proofs.VoteLaws.{ballotTold-most, vote-either, yes-legal}
 use Rattle.state.proofs.LegalLaws.{IsKept, legalState-kept, follower-legal}
 use Rattle.rules.proofs.LegalLaws.{IsWho, IsMessage}
-use Rattle.message.proofs.LegalLaws.{request-is, yes-is, is-yes, append-is}
+use Rattle.message.proofs.LegalLaws.{request-is, yes-is, append-is}
 use Rattle.rules.proofs.Fair.{Fair, Fine, idles, does, IsPeer, grows-same, grows-then, writes-none, writes-one, says-legal, some-not-none, refuses-fair, goes-fair}
 use Rattle.rules.proofs.EventsLaws.{withTerm-kept, withTerm-grows}
 use Rattle.rules.proofs.GatherLaws.{heardYes-fine}
@@ -37,24 +36,12 @@ module _ (w : Who) (i : IsWho w) where
   vote-legal :
       (k : Kept) (from last ballot : ℕ) → IsKept k → IsPeer w from → last ≤ limit → k .ballot < k .term
       → (legalTo from (vote k last ballot) ≡ true) × (legalBody (k .term) (vote k last ballot) ≡ true)
-  unfolding vote legalTo legalBody
+  unfolding legalTo legalBody
   vote-legal k from last ballot kept p within below =
       let peer = between-in 1 hubs-most from (p .first) (omega (arith, p .last, i .most)) in
-      let left = length-drop last (k .log) in
-      let on = legalEntries-drop 1 (k .ballot) last (k .log) (kept .entries) in
-      let up = lastTerm-from 1 (k .ballot) (take last (k .log)) (legalEntries-take 1 (k .ballot) last (k .log) (kept .entries)) in
-      cond-either (λ (b : Body). (legalTo from b ≡ true) × (legalBody (k .term) b ≡ true)) (leb (k .ballot) ballot)
-      (λ t. (
-        peer,
-        is-yes (k .term) last _ _
-            (record {
-              within = omega (arith, kept .within);
-              below = below;
-              empty = λ e. omega (arith, kept .empty e);
-              legal = legalEntries-wider (lastTerm 1 (take last (k .log))) 1 (k .ballot) (k .ballot) _ up (omega arith) on;
-            }),
-      ))
-      (λ t. (peer, refl))
+      vote-either k last (λ (b : Body). (legalTo from b ≡ true) × (legalBody (k .term) b ≡ true)) ballot
+      (λ low. (peer, yes-legal k last kept within (omega (arith, ballotTold-most (length (k .log)) (k .ballot)))))
+      (λ high. (peer, refl))
 
   -- ---- the rule for each type
 

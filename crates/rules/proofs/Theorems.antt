@@ -4,10 +4,10 @@
 use Prim.Native.Nat.{ℕ, _+_, _<_}
 use native.Mathlib.Omega.{arith}
 use mathlib.Core.Path.{_≡_, refl}
-use mathlib.Core.Bool.{true, false}
+use mathlib.Core.Bool.{Bool, true, false, _&&_}
 use mathlib.Core.List.{[], _∷_}
 use mathlib.Core.Option.{some}
-use borrow.Author.Tests.{ne-eqb, le-leb, lt-leb, lt-ltb, le-ltb}
+use borrow.Author.Tests.{eq-eqb, ne-eqb, le-leb, lt-leb, lt-ltb, le-ltb}
 use lib.Dec.{leb, ltb, eqb}
 use lib.ListN.{length, length-append}
 use Rattle.kinds.specs.Sizes.{Who, term-most, limit, between, isSize, isHub}
@@ -19,10 +19,10 @@ use Rattle.message.specs.Legal.{legalMessage}
 use Rattle.state.specs.State.{Kept, Lost, follower, candidate, leader, State, fresh}
 use Rattle.state.specs.Legal.{legalKept, legalLost, legalState}
 use Rattle.rules.specs.Outcome.{done}
-use Rattle.rules.specs.Events.{isLeader, len, withTerm, leads, started, start, withEntry, proposeLeading, propose, send, restart}
-use Rattle.rules.specs.Receive.{Effect, heardYes, fits, taken, heardAppend, heardEnd, rule, isStale, followerAt, afterRaise, receive}
+use Rattle.rules.specs.Events.{isLeader, isCandidate, len, withTerm, leads, started, asks, start, withEntry, proposeLeading, propose, send, restart}
+use Rattle.rules.specs.Receive.{Effect, ballotTold, vote, heardYes, fits, taken, heardAppend, heardEnd, rule, isStale, contradicts, followerAt, afterRaise, receive}
 use Rattle.rules.specs.Happens.{Occasion, to-start, to-propose, to-send, to-restart, to-receive, happens, legalAt, Meets}
-use Rattle.rules.specs.Theorems.{NextIsLegal, NothingFalls, MessageIsLegal, RefusalLeaves, RefusalIsSilent, ThirteenExactly, MajorityPlaceInLog, StartTakesEffect, ProposeTakesEffect, SendTakesEffect, RestartTakesEffect, HigherTermTakesEffect, FreshIsLegal}
+use Rattle.rules.specs.Theorems.{NextIsLegal, NothingFalls, MessageIsLegal, RefusalLeaves, RefusalIsSilent, ThirteenExactly, MajorityPlaceInLog, StartTakesEffect, ProposeTakesEffect, SendTakesEffect, RestartTakesEffect, HigherTermTakesEffect, FreshIsLegal, AsksHigher, Replies, EmptyHubSaysYes, OthersCompare, CandidateWritesBallot, AnswerAgrees}
 use Rattle.kinds.proofs.BoolLaws.{and-first, and-second, not-both, cond-either}
 use Rattle.state.proofs.LegalLaws.{legalLeader-is, legalState-lost}
 use Rattle.rules.proofs.LegalLaws.{isWho, legalMessage-is}
@@ -30,6 +30,7 @@ use Rattle.rules.proofs.MajorityLaws.{majorityPlace-within}
 use Rattle.command.proofs.ProposalLaws.{readProposal-legal}
 use Rattle.rules.proofs.Fair.{Fair}
 use Rattle.rules.proofs.EventsLaws.{start-fair, propose-fair, send-fair, restart-fair}
+use Rattle.rules.proofs.VoteLaws.{vote-either, vote-empty, vote-other}
 use Rattle.rules.proofs.ReceiveLaws.{receive-fair, receive-new, afterRaise-done}
 
 -- ---- every event
@@ -100,12 +101,14 @@ majorityPlace-in-log w s confirmed h e =
 
 -- ---- an event takes effect where the rules permit it
 
+-- A term below the last one is not the last.
+not-last : (s : State) → s .kept .term < term-most → eqb (s .kept .term) term-most ≡ false
+not-last s low = ne-eqb (s .kept .term) term-most (λ e. omega arith)
+
 -- A start.
 pub start-takes-effect : StartTakesEffect
 unfolding happens start started withTerm
-start-takes-effect w s role low =
-    let t : eqb (s .kept .term) term-most ≡ false = ne-eqb (s .kept .term) term-most (λ e. omega arith) in
-    rw (role, t) (refl, refl)
+start-takes-effect w s role low = rw (role, not-last s low) (refl, refl)
 
 -- A proposal, by the role.
 propose-grows :
@@ -164,3 +167,42 @@ higher-term-takes-effect w s m addressed up =
     let higher : ltb (s .kept .term) (m .term) ≡ true = lt-ltb (s .kept .term) (m .term) up in
     rw (addressed, higher-fresh s m up, higher)
     (afterRaise-done r (rule w r (m .from) (m .body)), raised-term w s (m .term) (m .from) (m .body))
+
+-- ---- the vote
+
+-- What a vote-request of a higher term comes to.
+replies :
+    (w : Who) (s : State) (m : Message) (last ballot : ℕ) → AsksHigher w s m last ballot
+    → Replies w s m (vote (followerAt s (m .term) .kept) last ballot)
+unfolding happens receive afterRaise rule
+replies w s m last ballot a =
+    let higher : ltb (s .kept .term) (m .term) ≡ true = lt-ltb (s .kept .term) (m .term) (a .higher) in
+    rw (a .addressed, higher-fresh s m (a .higher), higher, a .body)
+
+-- An empty hub says yes, and tells ballot 0.
+pub empty-hub-says-yes : EmptyHubSaysYes
+unfolding followerAt withTerm
+empty-hub-says-yes w s m last ballot a empty = rw (← vote-empty (followerAt s (m .term) .kept) last ballot empty) (replies w s m last ballot a)
+
+-- All others compare their own ballot, and tell it.
+pub others-compare : OthersCompare
+unfolding followerAt withTerm
+others-compare w s m last ballot a held = rw (← vote-other (followerAt s (m .term) .kept) last ballot held) (replies w s m last ballot a)
+
+-- What a hub asks with is its own ballot.
+pub candidate-writes-ballot : CandidateWritesBallot
+unfolding happens start started withTerm asks
+candidate-writes-ballot w s role low = rw (role, not-last s low)
+
+-- A yes to the hub's own request names its length, and no ballot above its own.
+pub answer-agrees : AnswerAgrees
+unfolding contradicts
+answer-agrees s k =
+    let told = ballotTold (length (k .log)) (k .ballot) in
+    vote-either k (len s) (λ (b : Body). contradicts s b ≡ false) (s .kept .ballot)
+    (λ low. in-any-role (isCandidate s) (rw (eq-eqb (len s) (len s) refl, le-ltb (s .kept .ballot) told low)))
+    (λ high. refl)
+  where
+    in-any-role : (role : Bool) {t : Bool} → t ≡ false → (role && t) ≡ false
+    in-any-role true e = e
+    in-any-role false e = refl

@@ -21,10 +21,16 @@ pub data Effect : Type 0 where
 
 -- ---- vote-request with a higher term, at the follower of that term
 
--- Yes exactly if own ballot ≤ the message's ballot. vote-yes carries the request's last, own ballot and all own entries after last
+-- The ballot that a hub with n entries tells: 0 with an empty log, else its own (rule R44).
+unfoldable pub ballotTold : ℕ → ℕ → ℕ
+ballotTold n own = cond (eqb n 0) 0 own
+
+-- Yes exactly if the ballot told ≤ the message's ballot. vote-yes carries the request's last, the ballot told and all own entries after last
 -- (none if the log is no longer than last). Otherwise vote-no.
 unfoldable pub vote : Kept → ℕ → ℕ → Body
-vote k last ballot = cond (leb (k .ballot) ballot) (vote-yes last (k .ballot) (drop last (k .log))) vote-no
+vote k last ballot =
+    let told = ballotTold (length (k .log)) (k .ballot) in
+    cond (leb told ballot) (vote-yes last told (drop last (k .log))) vote-no
 
 -- ---- vote-yes, own term, at a candidate, from a new voter
 

@@ -2,22 +2,23 @@
 use Prim.Native.Nat.{ℕ, _+_, _≤_, _<_}
 use mathlib.Core.Path.{_≡_}
 use mathlib.Core.Logic.{_↔_}
-use mathlib.Core.Bool.{true, false}
-use mathlib.Core.List.{List}
+use mathlib.Core.Bool.{true, false, cond}
+use mathlib.Core.List.{List, []}
 use mathlib.Core.Option.{Option, none, some}
-use lib.ListN.{length}
+use lib.Dec.{leb}
+use lib.ListN.{length, drop}
 use Rattle.kinds.specs.Sizes.{Who, isSize, isHub, term-most, limit, text-room}
 use Rattle.command.specs.Command.{Command}
 use Rattle.command.specs.Proposal.{readProposal}
-use Rattle.message.specs.Message.{Message}
+use Rattle.message.specs.Message.{Message, Body, vote-request, vote-yes, vote-no}
 use Rattle.message.specs.Legal.{legalMessage}
 use Rattle.state.specs.State.{Kept, leader, State, fresh}
 use Rattle.state.specs.Legal.{legalState}
 use Rattle.state.specs.Image.{image}
-use Rattle.rules.specs.Outcome.{done, stale, nothing-new}
+use Rattle.rules.specs.Outcome.{done, goes, stale, nothing-new}
 use Rattle.rules.specs.Majority.{confirmedBy, majorityPlace}
-use Rattle.rules.specs.Events.{isLeader, len}
-use Rattle.rules.specs.Receive.{Effect, idle, effect, rule, isMisaddressed, isStale, contradicts}
+use Rattle.rules.specs.Events.{isLeader, len, says, started}
+use Rattle.rules.specs.Receive.{Effect, idle, effect, vote, rule, isMisaddressed, isStale, contradicts, followerAt}
 use Rattle.rules.specs.Step.{Call, Answer, Event, eventOf, over, written, seenBy, answer, stepOf}
 use Rattle.rules.specs.Happens.{Occasion, to-start, to-propose, to-send, to-restart, to-receive, happens, occasionOf, Meets}
 
@@ -54,6 +55,18 @@ pub record LargestConfirmed (n : ℕ) (confirmed : List ℕ) (place : ℕ) : Typ
   pub has : 1 ≤ place → confirmedBy n confirmed place ≡ true
   pub most : place ≤ limit
   pub none-above : (p : ℕ) → place < p → p ≤ limit → confirmedBy n confirmed p ≡ false
+
+-- A vote-request of a higher term is for this hub.
+pub record AsksHigher (w : Who) (s : State) (m : Message) (last ballot : ℕ) : Type 0 where
+  pub addressed : isMisaddressed w m ≡ false
+  pub higher : s .kept .term < m .term
+  pub body : m .body ≡ vote-request last ballot
+
+-- The hub takes the message's term, keeps all else that it kept, its ballot too, and says this to whoever sent it.
+abbrev pub Replies : Who → State → Message → Body → Type 0
+Replies w s m body =
+    let next = followerAt s (m .term) in
+    happens w s (to-receive m) ≡ goes next (some (says w next (m .from) body))
 
 -- What a call leaves, whatever it brings: where it takes effect the image of a legal state, else the bytes that were there; and over the
 -- output the text of a legal message, or nothing.
@@ -128,6 +141,30 @@ MajorityPlaceIsOnly = (n : ℕ) (confirmed : List ℕ) (place : ℕ) → Largest
 abbrev pub MajorityPlaceInLog : Type 0
 MajorityPlaceInLog =
     (w : Who) (s : State) (confirmed : List ℕ) → legalState w s ≡ true → s .lost ≡ leader confirmed → majorityPlace (w .size) confirmed ≤ len s
+
+-- ---- the vote
+
+-- A hub whose log is empty says yes to any vote-request of a higher term, whatever its own ballot, and writes ballot 0 in that reply.
+abbrev pub EmptyHubSaysYes : Type 0
+EmptyHubSaysYes =
+    (w : Who) (s : State) (m : Message) (last ballot : ℕ) → AsksHigher w s m last ballot → len s ≡ 0
+    → Replies w s m (vote-yes last 0 [])
+
+-- All other hubs compare their own ballot with the message's, and write it.
+abbrev pub OthersCompare : Type 0
+OthersCompare =
+    (w : Who) (s : State) (m : Message) (last ballot : ℕ) → AsksHigher w s m last ballot → 1 ≤ len s
+    → Replies w s m (cond (leb (s .kept .ballot) ballot) (vote-yes last (s .kept .ballot) (drop last (s .kept .log))) vote-no)
+
+-- A candidate still writes its real ballot, also where its log is empty.
+abbrev pub CandidateWritesBallot : Type 0
+CandidateWritesBallot =
+    (w : Who) (s : State) → isLeader s ≡ false → s .kept .term < term-most
+    → happens w s to-start .message ≡ some (says w (started w s) 0 (vote-request (len s) (s .kept .ballot)))
+
+-- No answer to a hub's own request, whoever gives it, contradicts the hub: last is its length, and the ballot told is not above its own.
+abbrev pub AnswerAgrees : Type 0
+AnswerAgrees = (s : State) (k : Kept) → contradicts s (vote k (len s) (s .kept .ballot)) ≡ false
 
 -- ---- an event takes effect where the rules permit it
 

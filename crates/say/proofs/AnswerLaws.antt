@@ -1,18 +1,18 @@
 -- Laws of a hub's answers: what it says to each is legal, and the code's bodies are the rules'. Assumes nothing.
 use Prim.Native.Nat.{ℕ, _-_, _≤_, _<_}
 use native.Mathlib.Omega.{arith}
-use mathlib.Core.Path.{_≡_, refl}
+use mathlib.Core.Path.{_≡_, refl, _∙_, ap₂}
 use mathlib.Core.Bool.{true, false}
 use mathlib.Core.List.{List}
-use borrow.Author.Tests.{ltb-true, ltb-false, le-leb, lt-leb}
+use borrow.Author.Tests.{ltb-true, ltb-false, le-leb}
 use lib.Dec.{ltb}
-use lib.ListN.{length, take, drop, length-drop}
+use lib.ListN.{length, drop, length-drop}
 use Rattle.kinds.specs.declared.Place.{Place}
+use Rattle.kinds.specs.declared.Term.{Term}
 use Rattle.kinds.specs.Of.{place}
 use Rattle.kinds.specs.Sizes.{Who, between, hubs-most, limit}
 use Rattle.kinds.proofs.BetweenLaws.{between-in}
-use Rattle.command.specs.Entry.{Entry, legalEntries}
-use Rattle.command.proofs.EntryLaws.{legalEntries-wider}
+use Rattle.command.specs.Entry.{Entry}
 use Rattle.message.specs.Message.{entriesOf, vote-request, vote-yes, vote-no, append-no}
 use Rattle.message.specs.Legal.{legalTo, legalBody}
 use Rattle.message.specs.Answer.{saidWith, manyIn}
@@ -23,10 +23,9 @@ use Rattle.state.specs.State.{Kept}
 use Rattle.state.specs.Image.{stateIn}
 use Rattle.state.specs.Head.{headIn}
 use Rattle.rules.specs.Events.{len, says}
-use Rattle.rules.specs.Receive.{vote}
-use Rattle.rules.proofs.EntryLaws.{lastTerm, lastTerm-from, legalEntries-take, legalEntries-drop}
-use Rattle.state.proofs.LegalLaws.{IsKept}
-use Rattle.message.proofs.LegalLaws.{request-is, is-yes}
+use Rattle.rules.specs.Receive.{ballotTold, vote}
+use Rattle.rules.proofs.VoteLaws.{vote-either, yes-legal}
+use Rattle.message.proofs.LegalLaws.{request-is}
 use Rattle.rules.proofs.Fair.{says-legal}
 use Rattle.promise.specs.Append.{Tested}
 use Rattle.promise.proofs.PromiseLaws.{ready-who}
@@ -37,37 +36,17 @@ use Rattle.say.proofs.SpokenLaws.{tested-kept, tested-within}
 
 -- ---- the answer to a vote-request
 
--- The entries after a place of a legal log are legal.
-entries-after : (high p : ℕ) (es : List Entry) → legalEntries 1 high es ≡ true → legalEntries 1 high (drop p es) ≡ true
-entries-after high p es h =
-    legalEntries-wider (lastTerm 1 (take p es)) 1 high high (drop p es) (lastTerm-from 1 high (take p es) (legalEntries-take 1 high p es h)) (omega arith)
-    (legalEntries-drop 1 high p es h)
-
 module _ (k : Kept) (last ballot : ℕ) where
-  -- The own ballot is higher.
-  vote-higher : ballot < k .ballot → vote k last ballot ≡ vote-no
-  unfolding vote
-  vote-higher h = rw (lt-leb (k .ballot) ballot h)
+  abbrev told : ℕ
+  told = ballotTold (length (k .log)) (k .ballot)
+
+  -- The ballot told is higher.
+  vote-higher : ballot < told → vote k last ballot ≡ vote-no
+  vote-higher h = vote-either k last (λ b. b ≡ vote-no) ballot (λ low. absurd (omega arith)) (λ high. refl)
 
   -- It is not.
-  vote-given : k .ballot ≤ ballot → vote k last ballot ≡ vote-yes last (k .ballot) (drop last (k .log))
-  unfolding vote
-  vote-given h = rw (le-leb (k .ballot) ballot h)
-
-  -- A vote that is given to a legal request is legal.
-  given-legal :
-      IsKept k → legalBody (k .term) (vote-request last ballot) ≡ true → k .ballot ≤ ballot
-      → legalBody (k .term) (vote-yes last (k .ballot) (drop last (k .log))) ≡ true
-  given-legal kept b low =
-      let request = request-is (k .term) last ballot b in
-      let left = length-drop last (k .log) in
-      is-yes (k .term) last (k .ballot) (drop last (k .log))
-      (record {
-        within = omega (arith, request .within, kept .within);
-        below = omega (arith, request .below);
-        empty = λ e. omega (arith, kept .empty e);
-        legal = entries-after (k .ballot) last (k .log) (kept .entries);
-      })
+  vote-given : told ≤ ballot → vote k last ballot ≡ vote-yes last told (drop last (k .log))
+  vote-given h = vote-either k last (λ b. b ≡ vote-yes last told (drop last (k .log))) ballot (λ low. refl) (λ high. absurd (omega arith))
 
 -- ---- what an answer needs
 
@@ -119,30 +98,35 @@ module _ (w : Who) (l : List ℕ) (to : ℕ) (out : List ℕ) (a : Answering w l
       → Said (says w (stateIn l) to (append-no (len (stateIn l)))) out r out′
   said-length said = rw (tested-length w h l tested) at said
 
-  module _ (last ballot : ℕ) where
-    -- The own ballot is higher: no.
-    pub said-no :
-        {r : ℕ} {out′ : List ℕ} → ltb ballot (h .ballot .0) ≡ true → Said (says w (stateIn l) to vote-no) out r out′
-        → Said (says w (stateIn l) to (vote (stateIn l .kept) last ballot)) out r out′
-    said-no high said =
-        rw (vote-higher (stateIn l .kept) last ballot (omega (arith, ltb-true ballot (h .ballot .0) high, tested-ballot w h l tested))) said
+  -- What is told of the head is told of the hub.
+  module _ {told : Term} (t : told .0 ≡ ballotTold (h .length .0) (h .ballot .0)) (last ballot : ℕ) where
+    abbrev kept : Kept
+    kept = stateIn l .kept
 
-    module _ (b : legalBody (stateIn l .kept .term) (vote-request last ballot) ≡ true) (low : ltb ballot (h .ballot .0) ≡ false) where
-      not-higher : stateIn l .kept .ballot ≤ ballot
-      not-higher = omega (arith, ltb-false ballot (h .ballot .0) low, tested-ballot w h l tested)
+    told-is : told .0 ≡ ballotTold (length (kept .log)) (kept .ballot)
+    told-is = t ∙ ap₂ ballotTold (tested-length w h l tested) (tested-ballot w h l tested)
+
+    -- The ballot told is higher: no.
+    pub said-no :
+        {r : ℕ} {out′ : List ℕ} → ltb ballot (told .0) ≡ true → Said (says w (stateIn l) to vote-no) out r out′
+        → Said (says w (stateIn l) to (vote kept last ballot)) out r out′
+    said-no high said = rw (vote-higher kept last ballot (omega (arith, ltb-true ballot (told .0) high, told-is))) said
+
+    module _ (b : legalBody (kept .term) (vote-request last ballot) ≡ true) (low : ltb ballot (told .0) ≡ false) where
+      not-higher : ballotTold (length (kept .log)) (kept .ballot) ≤ ballot
+      not-higher = omega (arith, ltb-false ballot (told .0) low, told-is)
 
       -- It is not: yes, with the entries after last.
-      pub may-say-yes :
-          {count : ℕ} → count ≡ h .length .0 - last → Speaks w h l to (VoteYes (place last) (h .ballot) count) last out
+      pub may-say-yes : {count : ℕ} → count ≡ h .length .0 - last → Speaks w h l to (VoteYes (place last) told count) last out
       unfolding entriesOf legalTo
       may-say-yes {count} n =
-          let k = stateIn l .kept in
-          may-say (VoteYes (place last) (h .ballot) count) last (request-is (k .term) last ballot b .within)
+          let request = request-is (kept .term) last ballot b in
+          may-say (VoteYes (place last) told count) last (request .within)
           (omega (arith, n, tested-length w h l tested, length-drop last log)) to-hub
-          (rw (tested-ballot w h l tested) (given-legal k last ballot (tested-kept w h l tested) b not-higher))
+          (rw told-is (yes-legal kept last (tested-kept w h l tested) (request .within) (omega (arith, not-higher, request .below))))
 
       -- That is the vote.
       pub said-yes :
-          {r : ℕ} {out′ : List ℕ} → Said (says w (stateIn l) to (vote-yes last (h .ballot .0) (drop last log))) out r out′
-          → Said (says w (stateIn l) to (vote (stateIn l .kept) last ballot)) out r out′
-      said-yes said = rw (vote-given (stateIn l .kept) last ballot not-higher) (rw (tested-ballot w h l tested) at said)
+          {r : ℕ} {out′ : List ℕ} → Said (says w (stateIn l) to (vote-yes last (told .0) (drop last log))) out r out′
+          → Said (says w (stateIn l) to (vote kept last ballot)) out r out′
+      said-yes said = rw (vote-given kept last ballot not-higher) (rw told-is at said)

@@ -7,7 +7,7 @@ ghost use Rattle.message.specs.Message.{vote-request, vote-no, append-yes, appe
 ghost use Rattle.message.specs.Legal.{legalBody};
 ghost use Rattle.state.specs.Image.{stateIn};
 ghost use Rattle.rules.specs.Events.{len, says};
-ghost use Rattle.rules.specs.Receive.{vote};
+ghost use Rattle.rules.specs.Receive.{ballotTold, vote};
 ghost use Rattle.promise.specs.Promise.{whoIn};
 ghost use Rattle.say.specs.Said.{Said, Answering};
 ghost use Rattle.say.specs.Spoken.{spoken, Speaks};
@@ -73,8 +73,18 @@ pub fn say_no(g: Caller, state: &[u8], to: Hub, out: &mut [u8]) -> usize
     speak(g, h, state, to, Body::VoteNo, length, out)
 }
 
-// Answers a vote-request of this last and ballot: yes exactly if own ballot ≤ its ballot, with its last, own ballot and all own entries after last.
-// Otherwise no.
+// The ballot that a hub tells: 0 with an empty log, else its own. Who holds no entry has voted for none, whatever ballot it has reached.
+fn ballot_told(h: Head) -> Term
+    ensures { λ r. ⌜ r .0 ≡ ballotTold (h .length .0) (h .ballot .0) ⌝ }
+{
+    if h.length.number() == 0 {
+        return Term::of(0);
+    }
+    h.ballot
+}
+
+// Answers a vote-request of this last and ballot: yes exactly if the ballot told ≤ its ballot, with its last, the ballot told and all own entries
+// after last. Otherwise no.
 pub fn say_vote(
     g: Caller,
     state: &[u8],
@@ -87,14 +97,14 @@ pub fn say_vote(
     ensures { λ r. ⌜ Said (says (whoIn g) (stateIn (now (state .entry))) (to .0) (vote (stateIn (now (state .entry)) .kept) (last .0) (ballot .0))) (now (out .entry)) r (now (out .exit)) ⌝ }
 {
     let h = head::read_head(state);
-    let own = h.ballot;
-    if ballot.below(own) {
+    let told = ballot_told(h);
+    if ballot.below(told) {
         return say_no(g, state, to, out);
     }
     let count = entries_after(h, last);
     let body = Body::VoteYes {
         last,
-        ballot: own,
+        ballot: told,
         count,
     };
     speak(g, h, state, to, body, last, out)

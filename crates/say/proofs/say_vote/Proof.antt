@@ -10,21 +10,32 @@ use Rattle.say.proofs.say_vote.Tie as tie
 head-there : tie.Need-read-head-requires
 head-there c κs = ready-long _ _ (c .before .before .pre .0 .ready)
 
--- The own ballot is higher.
+-- The ballot told is higher.
 no : tie.Need-returns
-no c = said-no _ _ _ _ (c .before .before .before .before .before .before .before .before .before .before .pre .0) (c .before .before .before .before .before .before .before .read-head .ensures) _ _ (sym (c .before .before .before .before .before .below .ensures) ∙ c .before .before .before .before .if1 .taken) (c .before .before .say-no .ensures)
+no c =
+    let at-if = c .before .before .before .before in
+    let at-told = at-if .before .before in
+    let start = at-told .before .before .before .before in
+    said-no _ _ _ _ (start .pre .0) (at-told .before .read-head .ensures) (at-told .ballot-told .ensures) _ _ (sym (at-if .before .below .ensures) ∙ at-if .if1 .taken)
+    (c .before .before .say-no .ensures)
 
 -- It is not, and the vote may be written.
 may-speak : tie.Need-speak-requires
 may-speak c κs =
-    let start = c .before .before .before .before .before .before .before .before in
-    may-say-yes _ _ _ _ (start .pre .0) (c .before .before .before .before .before .read-head .ensures) _ _ (start .pre .1) (sym (c .before .before .before .below .ensures) ∙ c .before .before .if1 .left) (c .before .entries-after .ensures)
+    let at-if = c .before .before in
+    let at-told = at-if .before .before in
+    let start = at-told .before .before .before .before in
+    may-say-yes _ _ _ _ (start .pre .0) (at-told .before .read-head .ensures) (at-told .ballot-told .ensures) _ _ (start .pre .1)
+    (sym (at-if .before .below .ensures) ∙ at-if .if1 .left) (c .before .entries-after .ensures)
 
 -- That is the vote.
 yes : tie.Need-returns-2
 yes c =
-    let start = c .before .before .before .before .before .before .before .before .before .before .before in
-    said-yes _ _ _ _ (start .pre .0) (c .before .before .before .before .before .before .before .before .read-head .ensures) _ _ (start .pre .1) (sym (c .before .before .before .before .before .before .below .ensures) ∙ c .before .before .before .before .before .if1 .left) (c .before .before .speak .ensures)
+    let at-if = c .before .before .before .before .before in
+    let at-told = at-if .before .before in
+    let start = at-told .before .before .before .before in
+    said-yes _ _ _ _ (start .pre .0) (at-told .before .read-head .ensures) (at-told .ballot-told .ensures) _ _ (start .pre .1)
+    (sym (at-if .before .below .ensures) ∙ at-if .if1 .left) (c .before .before .speak .ensures)
 
 pub say-vote-spec : {M : Type 1} → statement M
-say-vote-spec = tie.close (tie.spec head-there (λ c κs. search needs) (λ c κs. search needs) (λ c. search needs) no (λ c κs. search needs) may-speak (λ c. search needs) yes)
+say-vote-spec = tie.close (tie.spec head-there (λ c κs. search needs) (λ c κs. search needs) (λ c κs. search needs) (λ c. search needs) no (λ c κs. search needs) may-speak (λ c. search needs) yes)
