@@ -8,7 +8,7 @@ use compare::generator::home::{Failure, Home, TURNS, size};
 use independent::Outcome;
 
 /// What catches each variant, in the order of `VARIANTS`: the first always does among these homes, the others may.
-const CAUGHT: [&[Reason]; 8] = [
+const CAUGHT: [&[Reason]; 9] = [
     &[Reason::VoteForgotten],
     &[
         Reason::Machine(NoMajorityReported),
@@ -16,6 +16,7 @@ const CAUGHT: [&[Reason]; 8] = [
         Reason::Machine(SecondProposal),
     ],
     &[Reason::Machine(NotTheHighestVote)],
+    &[Reason::UntrueReport],
     &[Reason::Machine(NotTheHighestVote)],
     &[Reason::ReportedNotChosen],
     &[Reason::AcknowledgedWithoutVote],
@@ -51,7 +52,7 @@ fn every_variant_is_caught() {
 
 /// A home for each variant, in the order of `VARIANTS`, in which it does harm: the first such seed, found by trying one after the other. A
 /// change of what a seed makes happen changes them.
-const HARMED: [u64; 8] = [5, 124, 34, 323, 3, 3, 576, 19];
+const HARMED: [u64; 9] = [5, 124, 34, 9, 323, 3, 3, 576, 19];
 
 /// Nothing but the hubs' reports is looked at: two of them come to differ, or one takes back what it has reported.
 #[test]

@@ -8,8 +8,8 @@ use compare::generator::messages::{ROOM, Sample, rows, shapes};
 use compare::generator::rng::{Rng, seed};
 use compare::generator::{aimed, states};
 use image::{
-    CANDIDATE, CHOSEN_AT, HEAD_SIZE, Image, LEADER, ROW_SIZE, STATE_SIZE, number_at, put_number,
-    rows_of_bytes,
+    CANDIDATE, CHOSEN_AT, FOLLOWER, HEAD_SIZE, Image, LEADER, ROW_SIZE, STATE_SIZE, bytes_of_rows, number_at,
+    put_number, rows_of_bytes,
 };
 use independent::{Group, LIMIT, Outcome};
 
@@ -350,6 +350,67 @@ fn every_confirmed_length_counts_alike() {
     }
     println!("{tally:?}, chosen moved {moved} times");
     assert!(moved >= 20_000 && tally.outcomes[Outcome::NothingNew] >= 20_000);
+}
+
+/// The states of hub 2 at term 5, in every role, with every ballot, and with up to two entries.
+fn asked(rng: &mut Rng) -> Vec<Image> {
+    let mut all = Vec::new();
+    for (ballot, length) in (0..=5).flat_map(|ballot| (0..=ballot.min(2)).map(move |length| (ballot, length)))
+    {
+        let kept = Image { term: 5, ballot, log: states::rising(rng, length, 1, ballot), ..Image::default() };
+        let lost = match ballot {
+            5 => Image { role: LEADER, confirmed: [0, length, 0, 0, 0, 0, 0], ..kept.clone() },
+            _ => Image { role: CANDIDATE, voters: [0, 1, 0, 0, 0, 0, 0], ..kept.clone() },
+        };
+        all.extend([kept, lost]);
+    }
+    all
+}
+
+/// What a hub in this state answers to hub 1's request: yes if its ballot, or 0 with an empty log, is at most the request's.
+fn vote(image: &Image, term: u32, last: u32, ballot: u32) -> Vec<u8> {
+    let told = if image.log.is_empty() { 0 } else { image.ballot };
+    if told > ballot || term <= image.term {
+        return Sample { fields: [3, term.max(image.term), 2, 1, 0, 0, 0, 0], rows: Vec::new() }.lines();
+    }
+    let behind = image.log.get(last as usize..).unwrap_or(&[]);
+    let fields = [2, term, 2, 1, last, told, 0, behind.len() as u32];
+    Sample { fields, rows: bytes_of_rows(behind) }.lines()
+}
+
+/// Requests of every term up to the second above the hub's own, with every ballot below that, and with every last about its length.
+#[test]
+fn every_vote_request_is_answered_alike() {
+    let mut tally = Tally::default();
+    let mut unblocked = 0;
+    for image in asked(&mut Rng::seeded(seed())) {
+        let state = &image.bytes();
+        for (term, ballot) in (1..=7).flat_map(|term| (0..term).map(move |ballot| (term, ballot))) {
+            for last in if ballot == 0 { 0..=0 } else { 0..=3 } {
+                let input = &Sample { fields: [1, term, 1, 0, last, ballot, 0, 0], rows: Vec::new() }.lines();
+                let after = tally.compare(&Call {
+                    n: 3,
+                    own: 2,
+                    event: RECEIVE,
+                    a: 0,
+                    b: 0,
+                    state,
+                    input,
+                    room: ROOM,
+                });
+                assert_eq!(after.message, vote(&image, term, last, ballot), "{image:?}");
+                let Outcome::Done = after.outcome else { continue };
+                let follows =
+                    Image { term, role: FOLLOWER, voters: [0; 7], confirmed: [0; 7], ..image.clone() };
+                assert!(after.state == follows.bytes(), "{image:?}");
+                unblocked += u64::from(image.log.is_empty() && image.ballot > ballot);
+            }
+        }
+    }
+    println!("{tally:?}, {unblocked} votes of empty logs for a lower ballot");
+    assert!(
+        tally.outcomes[Outcome::Done] >= 1_000 && tally.outcomes[Outcome::Stale] >= 1_000 && unblocked >= 100
+    );
 }
 
 /// Every legal shape of a message, wherever it was meant for, and some texts that are none.

@@ -226,6 +226,24 @@ static void short_command(void)
     CHECK(holds(2, 1, brief) && holds(2, 2, felt));
 }
 
+/* Hub 1 leads, stores nothing and loses power. Hub 4 is elected with its vote, though the ballot of hub 1 is higher. Once hub 1 holds an
+ * entry it compares, and hub 5 does not get its vote. */
+static void empty_hub(void)
+{
+    uint32_t numbers[KRITNAMON_MESSAGE_NUMBERS];
+    uint8_t command[KRITNAMON_COMMAND_SIZE];
+
+    stop(1, command);
+    elect(1, 2, 3);
+    take(1, KRITNAMON_RESTART, 0, nothing, 0);
+    take(4, KRITNAMON_START, 0, nothing, 0); /* at the term of hub 1, and nobody hears of it */
+    elect(4, 1, 5);
+    CHECK(propose(4, command) == 1);
+    send_to(4, 1);
+    kritnamon_read_message(out, hear(1, take(5, KRITNAMON_START, 0, nothing, 0)), numbers, KRITNAMON_MESSAGE_NUMBERS);
+    CHECK(numbers[KRITNAMON_TYPE] == KRITNAMON_VOTE_NO);
+}
+
 /* ---- The stack. */
 
 #define STACK_MOST 2048u /* as kritnamon.h has it */
@@ -289,6 +307,7 @@ static const struct {
     {"equal-proposals", equal_proposals},
     {"kept-parts", kept_parts},
     {"short-command", short_command},
+    {"empty-hub", empty_hub},
     {"stack-use", stack_use},
 };
 

@@ -87,6 +87,11 @@ fn a_short_command_is_held_and_not_proposed() {
 }
 
 #[test]
+fn an_empty_hub_gives_its_vote() {
+    run("empty-hub");
+}
+
+#[test]
 fn a_call_takes_less_stack_than_the_header_says() {
     run("stack-use");
 }

@@ -5,6 +5,7 @@
 //! `KRITNAMON_SEED` and `KRITNAMON_STEPS=1` that home alone is run.
 
 use compare::binding::call::{Call, PROPOSE, Step, exported, independent};
+use compare::broken::compares_when_empty;
 use compare::checker::Checker;
 use compare::generator::home::{Home, TURNS, Tally, size};
 use compare::generator::rng::seed;
@@ -57,6 +58,7 @@ fn assert_eventful(all: &Tally) {
     assert!(all.received.iter().all(|&count| count > 100), "each type of message is received with effect");
     assert!(all.led > 3_000 && all.leader_changed > 1_000, "leaders change");
     assert!(all.contested > 50, "what is gathered differs in ballots");
+    assert!(all.unblocked > 50, "empty logs are asked with a lower ballot");
     assert!(all.reported > 10_000, "places are reported");
     assert!(all.full > 50, "logs become full");
     assert!(all.restarts > 5_000, "hubs restart, and find anything where the lost parts were");
@@ -85,11 +87,11 @@ fn is_short(bytes: &[u8]) -> bool {
     command::read(bytes).is_ok_and(|command| (1..FELT_LEAST).contains(&command.duration))
 }
 
-/// A hub of version 1.0.0, to which a client may propose any legal command: the independent program, with a command that is too short made
-/// longer on the way in, and short again where it was stored.
+/// A hub of version 1.0.0, to which a client may propose any legal command, and which compares ballots with an empty log too: the independent
+/// program, with a command that is too short made longer on the way in, and short again where it was stored.
 fn older(call: &mut Call) -> (Outcome, u32) {
     if call.event != PROPOSE || !is_short(call.input) {
-        return independent(call);
+        return compares_when_empty(call);
     }
     let mut longer = call.input.to_vec();
     put_number(&mut longer, 4, FELT_LEAST as u32);

@@ -5,12 +5,14 @@ use compare::broken::mistakes::MISTAKES;
 use compare::scenario::play;
 use std::path::{Path, PathBuf};
 
-const NAMES: [&str; 13] = [
+const NAMES: [&str; 15] = [
     "append-at-leader",
     "divergent-logs",
+    "empty-leader",
     "end-beyond-log",
     "late-refusal",
     "leader-returns",
+    "nothing-behind-last",
     "old-entry-chosen",
     "old-entry-not-chosen",
     "own-end",

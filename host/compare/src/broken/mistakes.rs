@@ -3,22 +3,25 @@
 
 use crate::binding::call::{Call, RECEIVE, Step, independent};
 use crate::broken::{
-    chooses_with_one_less, counts_vote_twice, cuts_longer_log, heard, keeps_lesser_ballot, trusts_lost_parts,
-    votes_for_lower_ballot,
+    chooses_with_one_less, compares_when_empty, counts_vote_twice, cuts_longer_log, heard,
+    keeps_lesser_ballot, said, tells_nothing_behind_last, trusts_lost_parts, votes_for_lower_ballot,
 };
 use crate::checker::message::{Kind, Message};
 use image::{FOLLOWER, Image, LEADER, LOST, TERM_AT, confirmed_at, put_number};
 use independent::Outcome;
 
 /// Each scenario with its mistake; some scenarios are about several.
-pub const MISTAKES: [(&str, Step); 16] = [
+pub const MISTAKES: [(&str, Step); 19] = [
     ("append-at-leader", steps_down),
     ("divergent-logs", cuts_longer_log),
     ("divergent-logs", keeps_lesser_ballot),
     ("divergent-logs", votes_for_lower_ballot),
+    ("empty-leader", compares_when_empty),
+    ("empty-leader", tells_its_own_ballot),
     ("end-beyond-log", takes_end_beyond_log),
     ("late-refusal", lowers_confirmed),
     ("leader-returns", cuts_longer_log),
+    ("nothing-behind-last", tells_nothing_behind_last),
     ("old-entry-chosen", votes_for_lower_ballot),
     ("old-entry-not-chosen", chooses_with_one_less),
     ("own-end", acknowledges_own_end),
@@ -36,6 +39,18 @@ fn steps_down(call: &mut Call) -> (Outcome, u32) {
         call.state[LOST].fill(0);
     }
     independent(call)
+}
+
+/// A hub whose log is empty says yes, and writes its own ballot.
+fn tells_its_own_ballot(call: &mut Call) -> (Outcome, u32) {
+    let asked = heard(call, Kind::VoteRequest);
+    let answer = independent(call);
+    match asked {
+        Some((state, _)) => {
+            said(call, answer, Kind::VoteYes, |yes| yes.with_number("ballot", state.ballot).text())
+        }
+        _ => answer,
+    }
 }
 
 /// An end beyond the leader's log counts as its whole log.

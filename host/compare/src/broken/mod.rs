@@ -7,16 +7,17 @@ pub mod mistakes;
 use crate::binding::call::{Call, RECEIVE, RESTART, Step, independent};
 use crate::checker::message::{Kind, Message};
 use image::{
-    BALLOT_AT, CANDIDATE, CHOSEN_AT, Image, LEADER, LENGTH_AT, LOST, ROLE_AT, ROW_SIZE, confirmed_at,
+    BALLOT_AT, CANDIDATE, CHOSEN_AT, Image, LEADER, LENGTH_AT, LOST, PLACES, ROLE_AT, ROW_SIZE, confirmed_at,
     number_at, put_number, row_at,
 };
 use independent::{Outcome, message};
 
 /// Each variant by its name.
-pub const VARIANTS: [(&str, Step); 8] = [
+pub const VARIANTS: [(&str, Step); 9] = [
     ("an append that cuts a longer log", cuts_longer_log),
     ("a repeated vote-yes counted twice", counts_vote_twice),
     ("votes given to a lower ballot", votes_for_lower_ballot),
+    ("ballot 0 told with nothing behind last", tells_nothing_behind_last),
     ("the lesser ballot kept when gathering", keeps_lesser_ballot),
     ("chosen moved with one vote less than a majority", chooses_with_one_less),
     ("an acknowledged end beyond what was stored", acknowledges_too_much),
@@ -30,6 +31,23 @@ pub(crate) fn heard(call: &Call, kind: Kind) -> Option<(Image, Message)> {
     let legal = call.event == RECEIVE && message::read(call.input).message.is_ok();
     let message = Message::read(call.input).filter(|_| legal)?;
     (message.kind == kind && message.term().0 >= state.term).then_some((state, message))
+}
+
+/// The answer with another text in place of its message, if that is of this type.
+fn said(
+    call: &mut Call,
+    answer: (Outcome, u32),
+    kind: Kind,
+    other: impl Fn(Message) -> String,
+) -> (Outcome, u32) {
+    match Message::read(&call.out[..answer.1 as usize]) {
+        Some(message) if message.kind == kind => {
+            let text = other(message);
+            call.out[..text.len()].copy_from_slice(text.as_bytes());
+            (answer.0, text.len() as u32)
+        }
+        _ => answer,
+    }
 }
 
 /// As Raft does: whatever stands behind the append's last entry is removed, once the entry at prev agrees.
@@ -95,6 +113,31 @@ pub(crate) fn votes_for_lower_ballot(call: &mut Call) -> (Outcome, u32) {
     }
 }
 
+/// A log that has nothing behind last is taken for an empty one: the hub says yes whatever its ballot, and tells ballot 0.
+pub(crate) fn tells_nothing_behind_last(call: &mut Call) -> (Outcome, u32) {
+    match heard(call, Kind::VoteRequest) {
+        Some((state, message)) if state.length() <= message.number("last") => {
+            let answer = says_yes_to_lower_ballot(call);
+            said(call, answer, Kind::VoteYes, |yes| yes.with_number("ballot", 0).text())
+        }
+        _ => independent(call),
+    }
+}
+
+/// A hub whose log is empty compares its ballot and tells it, as all others do. So did those before version 1.2.0, and no harm is done.
+pub fn compares_when_empty(call: &mut Call) -> (Outcome, u32) {
+    let Some((state, message)) = heard(call, Kind::VoteRequest) else { return independent(call) };
+    let refuses = state.ballot > message.number("ballot");
+    let answer = independent(call);
+    said(call, answer, Kind::VoteYes, |yes| {
+        let [term, from, to] = ["term", "from", "to"].map(|key| yes.number(key));
+        match refuses {
+            true => format!("type=vote-no\nterm={term}\nfrom={from}\nto={to}\n"),
+            false => yes.with_number("ballot", state.ballot).text(),
+        }
+    })
+}
+
 /// At each place that was held and is told of again, the pair with the lesser ballot stays.
 pub(crate) fn keeps_lesser_ballot(call: &mut Call) -> (Outcome, u32) {
     let before = heard(call, Kind::VoteYes);
@@ -127,16 +170,11 @@ pub(crate) fn chooses_with_one_less(call: &mut Call) -> (Outcome, u32) {
 
 /// One place more is acknowledged than the append had.
 fn acknowledges_too_much(call: &mut Call) -> (Outcome, u32) {
-    let (outcome, written) = independent(call);
-    match Message::read(&call.out[..written as usize]) {
-        Some(message) if message.kind == Kind::AppendYes && message.number("end") < 256 => {
-            let end = message.number("end") + 1;
-            let text = message.with_number("end", end).text();
-            call.out[..text.len()].copy_from_slice(text.as_bytes());
-            (outcome, text.len() as u32)
-        }
-        _ => (outcome, written),
-    }
+    let answer = independent(call);
+    said(call, answer, Kind::AppendYes, |yes| {
+        let end = (yes.number("end") + 1).min(PLACES);
+        yes.with_number("end", end).text()
+    })
 }
 
 /// The ballot is not stored: after a restart it is taken to be the term of the log's last entry.

@@ -40,6 +40,8 @@ pub struct Tally {
     pub leader_changed: u64,
     /// Votes whose entries met gathered ones of another ballot.
     pub contested: u64,
+    /// Votes asked of an empty log whose ballot is above the asker's.
+    pub unblocked: u64,
     /// Places that some hub reported.
     pub reported: u64,
     /// Logs that became full.
@@ -62,6 +64,7 @@ impl Tally {
         self.led += other.led;
         self.leader_changed += other.leader_changed;
         self.contested += other.contested;
+        self.unblocked += other.unblocked;
         self.reported += other.reported;
         self.full += other.full;
     }
@@ -431,6 +434,7 @@ impl Home {
         if let Some(message) = message {
             self.tally.received[message.kind as usize] += 1;
             self.tally.contested += u64::from(is_contested(before, message));
+            self.tally.unblocked += u64::from(is_unblocked(before, message));
         }
         if self.leads(hub) && before[ROLE_AT] != LEADER {
             self.tally.led += 1;
@@ -448,6 +452,12 @@ fn is_contested(before: &[u8], message: &Message) -> bool {
     let ballot = message.number("ballot");
     let mut met = state.gathered.iter().zip(&message.entries);
     message.kind == Kind::VoteYes && met.any(|(held, _)| held.0 != ballot)
+}
+
+/// Whether a request is heard by an empty log whose ballot is above it.
+fn is_unblocked(before: &[u8], message: &Message) -> bool {
+    let empty = number_at(before, LENGTH_AT) == 0;
+    message.kind == Kind::VoteRequest && empty && number_at(before, BALLOT_AT) > message.number("ballot")
 }
 
 /// A command that may be proposed, another for each number: a buzz with gain 0.5.
