@@ -36,7 +36,7 @@ extern "C" {
 
 /* ---- Version: 10,000 for each major version, 100 for each minor one, 1 for each patch. */
 
-#define KRITNAMON_VERSION 10100u  /* 1.1.0 */
+#define KRITNAMON_VERSION 10200u  /* 1.2.0 */
 
 /* The version of the library that was linked. Firmware compares it with KRITNAMON_VERSION, that of
  * the header, once when it starts. Proved: kritnamon_version in crates/kritnamon. */
@@ -253,6 +253,9 @@ uint32_t kritnamon_reported(const uint8_t *state, size_t length, uint32_t place,
  *     Nothing else counts: a hub that asks and can't win would keep the others from asking. The while
  *     should differ from hub to hub and from time to time, or hubs that ask at the same moment keep
  *     each other from a majority.
+ *   - A request of a term above a hub's own gets that hub's vote if its log is empty, whatever ballot
+ *     it has reached, and else if its ballot is not above the asker's. So a hub that led and stored
+ *     nothing keeps nobody from being elected.
  *   - A leader (KRITNAMON_STATE_ROLE says so) takes KRITNAMON_SEND for each peer, again and again, also
  *     when there is nothing new: it tells the peers that it leads, and what is chosen. A good prev is
  *     the length that the peer has confirmed, KRITNAMON_STATE_CONFIRMED; 0 is always good too. To
