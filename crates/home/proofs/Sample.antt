@@ -1,7 +1,8 @@
--- The claims are not empty. In a group of three, hub 1 is elected, takes a command, sends it to hub 2 and reports it; the append comes to
--- hub 2 twice, and what is sent to hub 3 is lost. Then hub 2 is elected on the votes of 2 and 3, sends what it has to hub 3, and reports
--- the same. Hub 1 loses power and comes back with anything in place of the lost parts, and a message comes to hub 2 damaged: both still
--- report the command. Computed by the rules, and carried over to a home of bytes and texts. Assumes nothing.
+-- The claims are not empty. In a group of three, hub 3 is elected and stores nothing. Hub 1 is elected on its vote, though hub 3 has the higher
+-- ballot, takes a command, sends it to hub 2 and reports it; the append comes to hub 2 twice, and what is sent to hub 3 is lost. Then hub 2
+-- is elected on the votes of 2 and 3, sends what it has to hub 3, and reports the same. Hub 1 loses power and comes back with anything in
+-- place of the lost parts, and a message comes to hub 2 damaged: both still report the command. Computed by the rules, and carried over to a
+-- home of bytes and texts. Assumes nothing.
 use Prim.Native.Nat.{ℕ}
 use mathlib.Core.Path.{_≡_, refl, sym, _∙_, ap, subst}
 use mathlib.Core.Logic.{inl, inr}
@@ -50,16 +51,23 @@ abbrev then : Household hub-rules → ℕ → Occasion → Household hub-rules
 then W h o = met hub-rules trio W h o
 
 abbrev entry : Entry
-entry = record { term = 1; command = buzz }
+entry = record { term = 2; command = buzz }
 
 -- ---- on values
 
--- Hub 1 is elected at term 1 by hub 2.
+-- Hub 3 is elected at term 1 by hub 1, and has nothing to send.
+abbrev idle : Household hub-rules
+idle =
+    then
+    (then (then (fresh-household hub-rules) 3 to-start) 1 (to-receive (says 1 3 0 (vote-request 0 0))))
+    3 (to-receive (says 1 1 3 (vote-yes 0 0 [])))
+
+-- Hub 1, with ballot 0, is elected at term 2 by hub 3, with ballot 1 and an empty log.
 abbrev elected : Household hub-rules
 elected =
     then
-    (then (then (fresh-household hub-rules) 1 to-start) 2 (to-receive (says 1 1 0 (vote-request 0 0))))
-    1 (to-receive (says 1 2 1 (vote-yes 0 0 [])))
+    (then (then idle 1 to-start) 3 (to-receive (says 2 1 0 (vote-request 0 0))))
+    1 (to-receive (says 2 3 1 (vote-yes 0 0 [])))
 
 -- It takes a command and sends it to hub 2, which hears of it twice and confirms it, and to hub 3, which never does.
 abbrev confirmed : Household hub-rules
@@ -68,23 +76,23 @@ confirmed =
     (then
     (then
     (then (then (then elected 1 (to-propose (buzzBytes ms250 halfGain))) 1 (to-send 3 0)) 1 (to-send 2 0))
-    2 (to-receive (says 1 1 2 (append 0 0 0 (entry ∷ [])))))
-    2 (to-receive (says 1 1 2 (append 0 0 0 (entry ∷ [])))))
-    1 (to-receive (says 1 2 1 (append-yes 1)))
+    2 (to-receive (says 2 1 2 (append 0 0 0 (entry ∷ [])))))
+    2 (to-receive (says 2 1 2 (append 0 0 0 (entry ∷ [])))))
+    1 (to-receive (says 2 2 1 (append-yes 1)))
 
--- Hub 2 is elected at term 2 by hub 3, which knows of nothing.
+-- Hub 2 is elected at term 3 by hub 3, which knows of nothing.
 abbrev changed : Household hub-rules
 changed =
     then
-    (then (then confirmed 2 to-start) 3 (to-receive (says 2 2 0 (vote-request 1 1))))
-    2 (to-receive (says 2 3 2 (vote-yes 1 0 [])))
+    (then (then confirmed 2 to-start) 3 (to-receive (says 3 2 0 (vote-request 1 2))))
+    2 (to-receive (says 3 3 2 (vote-yes 1 0 [])))
 
 -- It sends what it has to hub 3, which confirms it.
 abbrev final : Household hub-rules
 final =
     then
-    (then (then changed 2 (to-send 3 0)) 3 (to-receive (says 2 2 3 (append 0 0 0 (entry ∷ [])))))
-    2 (to-receive (says 2 3 2 (append-yes 1)))
+    (then (then changed 2 (to-send 3 0)) 3 (to-receive (says 3 2 3 (append 0 0 0 (entry ∷ [])))))
+    2 (to-receive (says 3 3 2 (append-yes 1)))
 
 -- A hub of the group meets an event that brings no message, or receives one that was written.
 alone : (W : Household hub-rules) → Meetings hub-rules trio W → (h : ℕ) → isHub 3 h ≡ true → (o : Occasion) → hub-rules .hears o ≡ none → Meetings hub-rules trio (then W h o)
@@ -97,7 +105,8 @@ hears W r h hub m i = meeting r h hub (to-receive m) (λ n q. let same : m ≡ n
 run : Meetings hub-rules trio final
 unfolding computed put happens met adding
 run =
-    let a = hears _ (hears _ (alone _ none-yet 1 refl to-start refl) 2 refl _ here) 1 refl _ here in
+    let o = hears _ (hears _ (alone _ none-yet 3 refl to-start refl) 1 refl _ here) 3 refl _ here in
+    let a = hears _ (hears _ (alone _ o 1 refl to-start refl) 3 refl _ here) 1 refl _ here in
     let b = alone _ (alone _ (alone _ a 1 refl (to-propose (buzzBytes ms250 halfGain)) refl) 1 refl (to-send 3 0) refl) 1 refl (to-send 2 0) refl in
     let c = hears _ (hears _ (hears _ b 2 refl _ here) 2 refl _ (there here)) 1 refl _ here in
     let d = hears _ (hears _ (alone _ c 2 refl to-start refl) 3 refl _ here) 2 refl _ here in
