@@ -378,39 +378,29 @@ fn vote(image: &Image, term: u32, last: u32, ballot: u32) -> Vec<u8> {
     Sample { fields, rows: bytes_of_rows(behind) }.lines()
 }
 
-/// Requests of every term up to the second above the hub's own, with every ballot below that, and with every last about its length.
+/// The requests of every term up to the second above that hub's own: term, last and ballot. Ballot 0 goes with last 0.
+fn requests() -> impl Iterator<Item = [u32; 3]> {
+    let ballots = (1..=7).flat_map(|term| (0..term).map(move |ballot| (term, ballot)));
+    ballots.flat_map(|(term, ballot)| (0..=3 * ballot.min(1)).map(move |last| [term, last, ballot]))
+}
+
 #[test]
 fn every_vote_request_is_answered_alike() {
     let mut tally = Tally::default();
-    let mut unblocked = 0;
     for image in asked(&mut Rng::seeded(seed())) {
         let state = &image.bytes();
-        for (term, ballot) in (1..=7).flat_map(|term| (0..term).map(move |ballot| (term, ballot))) {
-            for last in if ballot == 0 { 0..=0 } else { 0..=3 } {
-                let input = &Sample { fields: [1, term, 1, 0, last, ballot, 0, 0], rows: Vec::new() }.lines();
-                let after = tally.compare(&Call {
-                    n: 3,
-                    own: 2,
-                    event: RECEIVE,
-                    a: 0,
-                    b: 0,
-                    state,
-                    input,
-                    room: ROOM,
-                });
-                assert_eq!(after.message, vote(&image, term, last, ballot), "{image:?}");
-                let Outcome::Done = after.outcome else { continue };
-                let follows =
-                    Image { term, role: FOLLOWER, voters: [0; 7], confirmed: [0; 7], ..image.clone() };
-                assert!(after.state == follows.bytes(), "{image:?}");
-                unblocked += u64::from(image.log.is_empty() && image.ballot > ballot);
-            }
+        for [term, last, ballot] in requests() {
+            let input = &Sample { fields: [1, term, 1, 0, last, ballot, 0, 0], rows: Vec::new() }.lines();
+            let call = Call { n: 3, own: 2, event: RECEIVE, a: 0, b: 0, state, input, room: ROOM };
+            let after = tally.compare(&call);
+            assert_eq!(after.message, vote(&image, term, last, ballot), "{image:?}");
+            let follows = Image { term, role: FOLLOWER, voters: [0; 7], confirmed: [0; 7], ..image.clone() };
+            assert!(after.outcome == Outcome::Stale || after.state == follows.bytes(), "{image:?}");
         }
     }
-    println!("{tally:?}, {unblocked} votes of empty logs for a lower ballot");
-    assert!(
-        tally.outcomes[Outcome::Done] >= 1_000 && tally.outcomes[Outcome::Stale] >= 1_000 && unblocked >= 100
-    );
+    println!("{tally:?}");
+    assert!(tally.outcomes[Outcome::Done] >= 1_000 && tally.outcomes[Outcome::Stale] >= 1_000);
+    assert!(tally.unblocked >= 100);
 }
 
 /// Every legal shape of a message, wherever it was meant for, and some texts that are none.

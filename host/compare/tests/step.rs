@@ -137,4 +137,5 @@ fn calls_at_states_made_and_reached_are_answered_alike() {
     );
     assert!(tally.done_by_event[1..].iter().all(|&count| count >= 1_000), "an event was rarely done");
     assert!(tally.done_by_type[1..].iter().all(|&count| count >= 1_000), "a type was rarely taken");
+    assert!(tally.unblocked >= 150, "an empty log was rarely asked with a lower ballot");
 }

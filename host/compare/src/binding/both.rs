@@ -4,8 +4,9 @@ use crate::binding::call::RECEIVE;
 use crate::binding::outcomes::Outcomes;
 use crate::binding::watched::Watched;
 use crate::generator::messages::fields_of;
-use image::HEAD_SIZE;
-use independent::{Outcome, message, step};
+use image::{BALLOT_AT, HEAD_SIZE, LENGTH_AT, number_at};
+use independent::message::{self, Body, Message};
+use independent::{Outcome, step};
 
 /// A call of the step, with all that it lends. `room` is the size of the output.
 #[derive(Clone, Copy)]
@@ -63,13 +64,21 @@ impl Call<'_> {
     }
 }
 
-/// How many calls there were, and how many of each outcome; of those that were done, of each event and of each type received.
+/// Whether a request is for an empty log whose ballot is above it.
+fn is_unblocked(state: &[u8], message: &Message) -> bool {
+    let [ballot, length] = [BALLOT_AT, LENGTH_AT].map(|at| number_at(state, at));
+    matches!(message.body, Body::VoteRequest { ballot: asked, .. } if length == 0 && ballot > asked.0)
+}
+
+/// How many calls there were, and how many of each outcome; of those that were done, of each event, of each type received, and of requests
+/// that an empty log with a higher ballot received.
 #[derive(Debug, Default)]
 pub struct Tally {
     pub calls: u64,
     pub outcomes: Outcomes,
     pub done_by_event: [u64; 6],
     pub done_by_type: [u64; 7],
+    pub unblocked: u64,
 }
 
 impl Tally {
@@ -83,6 +92,7 @@ impl Tally {
             if call.event == RECEIVE {
                 let message = message::read(call.input).message.expect("a message that was taken");
                 self.done_by_type[fields_of(&message)[0] as usize] += 1;
+                self.unblocked += u64::from(is_unblocked(call.state, &message));
             }
         }
         after
