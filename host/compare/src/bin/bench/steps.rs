@@ -70,8 +70,8 @@ fn propose(length: u32) -> Option<Step> {
     (length < LIMIT).then(|| Step::new(leader(length), PROPOSE, &COMMAND))
 }
 
-fn vote_request(length: u32, ballot: u32) -> Option<Step> {
-    Some(Step::receive(follower(length), 1, TERM + 1, [0, ballot, 0, 0], Vec::new()))
+fn vote_request(length: u32, ballot: u32) -> Step {
+    Step::receive(follower(length), 1, TERM + 1, [0, ballot, 0, 0], Vec::new())
 }
 
 /// A vote with entries at a group of so many: in one of three it makes the hub a leader.
@@ -118,8 +118,8 @@ pub const KINDS: [(&str, Maker); 15] = [
     ("propose", propose),
     ("send of the whole log", |length| Some(Step::new(leader(length), SEND, b""))),
     ("restart", |length| Some(Step::new(leader(length), RESTART, b""))),
-    ("vote-request, yes with the whole log", |length| vote_request(length, TERM)),
-    ("vote-request, no", |length| vote_request(length, TERM - 1)),
+    ("vote-request, yes with the whole log", |length| Some(vote_request(length, TERM))),
+    ("vote-request, no", |length| (length > 0).then(|| vote_request(length, TERM - 1))),
     ("vote-yes of 16, gathered", |length| vote_yes(length, 5)),
     ("vote-yes of 16, to lead", |length| vote_yes(length, 3)),
     ("vote-no of a later term", |length| refusal(length, 3)),
