@@ -253,8 +253,8 @@ uint32_t kritnamon_reported(const uint8_t *state, size_t length, uint32_t place,
  *     Nothing else counts: a hub that asks and can't win would keep the others from asking. The while
  *     should differ from hub to hub and from time to time, or hubs that ask at the same moment keep
  *     each other from a majority.
- *   - A request of a term above a hub's own gets that hub's vote if its log is empty, whatever ballot
- *     it has reached, and else if its ballot is not above the asker's. So a hub that led and stored
+ *   - A hub that is asked at a term above its own gives its vote if its log is empty, whatever ballot
+ *     it has reached, and else if its ballot is not above the asker's. So one that led and stored
  *     nothing keeps nobody from being elected.
  *   - A leader (KRITNAMON_STATE_ROLE says so) takes KRITNAMON_SEND for each peer, again and again, also
  *     when there is nothing new: it tells the peers that it leads, and what is chosen. A good prev is

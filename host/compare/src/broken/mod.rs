@@ -124,7 +124,8 @@ pub(crate) fn tells_nothing_behind_last(call: &mut Call) -> (Outcome, u32) {
     }
 }
 
-/// A hub whose log is empty compares its ballot and tells it, as all others do. So did those before version 1.2.0, and no harm is done.
+/// A hub whose log is empty compares its ballot and tells it, as all others do. So did hubs before version 1.2.0: it blocks votes, and does
+/// no other harm.
 pub fn compares_when_empty(call: &mut Call) -> (Outcome, u32) {
     let Some((state, message)) = heard(call, Kind::VoteRequest) else { return independent(call) };
     let refuses = state.ballot > message.number("ballot");

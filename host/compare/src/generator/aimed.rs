@@ -65,7 +65,7 @@ fn ballot(rng: &mut Rng, own: u32, term: u32) -> u32 {
     some.min(term - 1)
 }
 
-/// Where the log is empty the hub's own ballot does not decide: with any up to it, or any at all.
+/// At an empty log, whose ballot does not decide, with any ballot up to it or any at all; else with one about it.
 fn request(rng: &mut Rng, image: &Image, term: u32) -> Sample {
     let most = rng.pick(&[image.ballot.min(term - 1), term - 1]);
     let ballot = if image.log.is_empty() { at_most(rng, most) } else { ballot(rng, image.ballot, term) };
