@@ -12,4 +12,6 @@ fn main() {
     println!("cargo:rustc-link-lib=static=kritnamon");
     println!("cargo:rerun-if-changed={}", top.join("crates").display());
     println!("cargo:rerun-if-changed={}", top.join("host/archive").display());
+    // `rt ci` removes it, and then it has to be made again though nothing else has changed.
+    println!("cargo:rerun-if-changed={}", top.join("target/native/libkritnamon.a").display());
 }
