@@ -127,7 +127,7 @@ uint32_t kritnamon_write_command(uint32_t motor, uint32_t kind, int32_t duration
 
 /* Types, in the order of the rules. */
 #define KRITNAMON_VOTE_REQUEST 1u  /* own numbers: last, ballot */
-#define KRITNAMON_VOTE_YES     2u  /* own numbers: last, ballot; entries */
+#define KRITNAMON_VOTE_YES     2u  /* own numbers: last, ballot (0 from an empty log); entries */
 #define KRITNAMON_VOTE_NO      3u
 #define KRITNAMON_APPEND       4u  /* own numbers: prev, prevterm, chosen; entries */
 #define KRITNAMON_APPEND_YES   5u  /* own number: end */
