@@ -414,7 +414,7 @@ fn an_empty_log_says_yes() {
     }
     let leads = leader(4, 0, &[], &[]);
     done(&TWO.receive(&leads, &request(6, 3, 0, 0)), &follower(6, 4, 0, &[]), &yes(6, 2, 3, 0, 0, &[]));
-    // The hub that asked takes it, whatever its own ballot, and asks with that one.
+    // A candidate of ballot 0 takes it; and with an empty log too, a hub asks with its own ballot.
     done(&ONE.receive(&candidate(5, 0, &[], &[1]), &yes(5, 2, 1, 0, 0, &[])), &leader(5, 0, &[], &[]), "");
     done(&ONE.start(&empty), &candidate(5, 3, &[], &[1]), &request(5, 1, 0, 3));
     // Stale is stale.

@@ -1,5 +1,5 @@
--- The answer to a vote-request (rules R22 and R44), by examples: a hub whose log is empty says yes and tells ballot 0, whatever its own; one that holds
--- an entry compares. The case of a row is its outcome. Assumes nothing.
+-- The answer to a vote-request (rules R22 and R44), by examples: a hub whose log is empty says yes and tells ballot 0, whatever its own; one
+-- that holds an entry compares. The case of a row is its outcome. Assumes nothing.
 use Prim.Native.Nat.{ℕ}
 use mathlib.Core.Bool.{true, false}
 use mathlib.Core.List.{List, [], _∷_}

@@ -56,8 +56,8 @@ entry = record { term = 2; command = buzz }
 -- ---- on values
 
 -- Hub 3 is elected at term 1 by hub 1, and has nothing to send.
-abbrev idle : Household hub-rules
-idle =
+abbrev led-in-vain : Household hub-rules
+led-in-vain =
     then
     (then (then (fresh-household hub-rules) 3 to-start) 1 (to-receive (says 1 3 0 (vote-request 0 0))))
     3 (to-receive (says 1 1 3 (vote-yes 0 0 [])))
@@ -66,7 +66,7 @@ idle =
 abbrev elected : Household hub-rules
 elected =
     then
-    (then (then idle 1 to-start) 3 (to-receive (says 2 1 0 (vote-request 0 0))))
+    (then (then led-in-vain 1 to-start) 3 (to-receive (says 2 1 0 (vote-request 0 0))))
     1 (to-receive (says 2 3 1 (vote-yes 0 0 [])))
 
 -- It takes a command and sends it to hub 2, which hears of it twice and confirms it, and to hub 3, which never does.

@@ -230,7 +230,7 @@ static void short_command(void)
  * entry it compares, and hub 5 does not get its vote. */
 static void empty_hub(void)
 {
-    uint32_t numbers[KRITNAMON_MESSAGE_NUMBERS];
+    uint32_t length, numbers[KRITNAMON_MESSAGE_NUMBERS] = {0};
     uint8_t command[KRITNAMON_COMMAND_SIZE];
 
     stop(1, command);
@@ -240,8 +240,9 @@ static void empty_hub(void)
     elect(4, 1, 5);
     CHECK(propose(4, command) == 1);
     send_to(4, 1);
-    kritnamon_read_message(out, hear(1, take(5, KRITNAMON_START, 0, nothing, 0)), numbers, KRITNAMON_MESSAGE_NUMBERS);
-    CHECK(numbers[KRITNAMON_TYPE] == KRITNAMON_VOTE_NO);
+    length = hear(1, take(5, KRITNAMON_START, 0, nothing, 0));
+    CHECK(KRITNAMON_OUTCOME(kritnamon_read_message(out, length, numbers, KRITNAMON_MESSAGE_NUMBERS)) == KRITNAMON_DONE);
+    CHECK(numbers[KRITNAMON_TYPE] == KRITNAMON_VOTE_NO && numbers[KRITNAMON_TO] == 5);
 }
 
 /* ---- The stack. */
