@@ -6,7 +6,6 @@ use mathlib.Core.List.{List, [], _∷_}
 use lib.ListN.{replicate}
 use Rattle.text.specs.Ascii.{ascii}
 use Rattle.state.specs.State.{State}
-use Rattle.state.specs.Image.{image}
 use Rattle.rules.specs.Row.{CaseRow, AllHold}
 use Rattle.rules.specs.Samples.{buzz, buzzEntry, kept, followerWith, candidateWith, leaderWith, hub1Alone, confirmed, stepRow, does}
 
@@ -64,7 +63,7 @@ votes =
     -- one with an entry says no, though it has nothing behind last
     ∷ does 0 2 5 (oneAt 5) (ascii "type=vote-request\nterm=6\nfrom=1\nto=0\nlast=1\nballot=2\n") (oneAt 6) noAt6
     -- at its own term an empty hub still refuses with 6
-    ∷ stepRow 6 2 3 5 0 0 (image (emptyAt 6)) asksWith0 6 (image (emptyAt 6)) noAt6
+    ∷ stepRow 6 2 3 5 0 0 (emptyAt 6) asksWith0 6 (emptyAt 6) noAt6
     ∷ []
 
 -- Every example comes out so.

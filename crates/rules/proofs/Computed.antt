@@ -20,11 +20,14 @@ use Rattle.state.specs.State.{fresh, reportedBy}
 use Rattle.rules.specs.Events.{isLeader, isCandidate, termAt, says, withTerm, leads, started, asks, start, withEntry, proposeLeading, propose, sends, send, restart}
 use Rattle.rules.specs.Majority.{confirmedBy, largest, majorityPlace}
 use Rattle.rules.specs.Receive.{ballotTold, vote, gather, joined, counted, heardYes, fits, replaced, taken, heardAppend, recorded, heardEnd, rule, isMisaddressed, isRequest, isStale, staleReply, contradicts, followerAt, afterRaise, atOwnTerm, receive}
-use Rattle.rules.specs.Row.{holds, CaseRow}
+use Rattle.rules.specs.Happens.{happens, received, occasionOf}
+use Rattle.rules.specs.Row.{CaseRow}
 use Rattle.rules.specs.Step.{eventOf, refusal, over, written, answer, receiving, acting, keptAlone, seenBy, atState, atEvent, stepOf}
 use Rattle.kinds.specs.Same.{same}
+use Rattle.state.specs.Table.{rowsOf}
+use Rattle.rules.proofs.Values.{oneImage, comesTo, tested, agrees, comesOut}
 
--- `holds`: whoever unfolds this one has all the definitions below it unfolded.
+-- `comesOut`: whoever unfolds this one has all the definitions below it unfolded.
 unfoldable pub computed : CaseRow → Bool
-unfolding between isSize isHub limit text-room digits decimal moreDigits number hexDigit hex nibble hexByte hexBytes lineText line onward literal whole isGain isDuration isZero isStop isBuzz isRamp legalCommand commandBytes commandOf legalEntries proposable isProposal readProposal word value part wordAt signed unsigned ownFields fields typeOf ownNumbers numbers countIn bodyOf messageOf legalTo legalBody legalMessage entriesOf linesText entryText entriesText text typeAmong types lines entry entries message ifLegal read partFrom partTo state-size roleOf votersOf gatheredOf confirmedOf flags bytesOf row headBytes image rowsIn keptIn wordsIn lostIn stateIn same readState readKept all count legalKept legalPair legalCandidate legalLeader legalLost legalState fresh reportedBy isLeader isCandidate termAt says withTerm leads started asks start withEntry proposeLeading propose sends send restart confirmedBy largest majorityPlace ballotTold vote gather joined counted heardYes fits replaced taken heardAppend recorded heardEnd rule isMisaddressed isRequest isStale staleReply contradicts followerAt afterRaise atOwnTerm receive holds eventOf refusal over written answer receiving acting keptAlone seenBy atState atEvent stepOf
-computed r = holds r
+unfolding between isSize isHub limit text-room digits decimal moreDigits number hexDigit hex nibble hexByte hexBytes lineText line onward literal whole isGain isDuration isZero isStop isBuzz isRamp legalCommand commandBytes commandOf legalEntries proposable isProposal readProposal word value part wordAt signed unsigned ownFields fields typeOf ownNumbers numbers countIn bodyOf messageOf legalTo legalBody legalMessage entriesOf linesText entryText entriesText text typeAmong types lines entry entries message ifLegal read partFrom partTo state-size roleOf votersOf gatheredOf confirmedOf flags bytesOf row headBytes image rowsIn keptIn wordsIn lostIn stateIn same readState readKept all count legalKept legalPair legalCandidate legalLeader legalLost legalState fresh reportedBy isLeader isCandidate termAt says withTerm leads started asks start withEntry proposeLeading propose sends send restart confirmedBy largest majorityPlace ballotTold vote gather joined counted heardYes fits replaced taken heardAppend recorded heardEnd rule isMisaddressed isRequest isStale staleReply contradicts followerAt afterRaise atOwnTerm receive eventOf refusal over written answer receiving acting keptAlone seenBy atState atEvent stepOf happens received occasionOf rowsOf oneImage comesTo tested agrees comesOut
+computed r = comesOut r

@@ -11,4 +11,5 @@ pub mod VoteLaws
 pub mod ReceiveLaws
 pub mod Theorems
 pub mod StepLaws
+pub mod Values
 pub mod Computed

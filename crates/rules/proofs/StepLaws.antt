@@ -54,6 +54,14 @@ step-is-what-happens c e s o event size own state room occasion =
     let room-enough : ltb (length (c .output)) text-room ≡ false = le-ltb (length (c .output)) text-room room in
     rw (event, size, own, state, room-enough) (acting-happens c e s o occasion)
 
+-- A state that the event does not see is refused.
+pub unseen-refused :
+    (c : Call) (e : Event) → eventOf (c .event) ≡ some e → isSize (c .who .size) ≡ true → isHub (c .who .size) (c .who .own) ≡ true
+    → seenBy (c .who) e (c .state) ≡ none
+    → stepOf c ≡ refusal c bad-state
+unfolding stepOf atEvent atState
+unseen-refused c e event size own state = rw (event, size, own, state)
+
 -- ---- what is read is legal
 
 -- A message, if it is legal.

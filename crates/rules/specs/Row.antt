@@ -1,4 +1,5 @@
--- A worked case: one call of the step at full size, and all that has to come out of it. Assumes nothing.
+-- A worked case: one call of the step at full size, and all that has to come out of it. The states are given by what they hold; what is lent and what
+-- is left are their images, byte for byte. Assumes nothing.
 use Prim.Native.Nat.{ℕ}
 use mathlib.Core.Bool.{Bool, true, _&&_}
 use mathlib.Core.List.{List}
@@ -6,7 +7,9 @@ use mathlib.Core.Path.{_≡_}
 use lib.Dec.{eqb}
 use lib.ListN.{length, replicate}
 use Rattle.kinds.specs.Sizes.{Who}
+use Rattle.state.specs.State.{State}
 use Rattle.state.specs.Legal.{all}
+use Rattle.state.specs.Image.{image}
 use Rattle.rules.specs.Step.{Call, Answer, stepOf, over}
 use Rattle.kinds.specs.Same.{same}
 
@@ -16,11 +19,11 @@ pub record CaseRow : Type 0 where
   pub event : ℕ
   pub a : ℕ
   pub b : ℕ
-  pub state : List ℕ
+  pub state : State  -- whose image is lent
   pub input : List ℕ
   pub room : ℕ  -- the bytes of the output
   pub outcome : ℕ
-  pub next : List ℕ  -- the bytes of the state afterwards
+  pub next : State  -- whose image is left
   pub message : List ℕ  -- the text that is written; empty for none
 
 -- An output filled with a byte that no message has.
@@ -34,7 +37,7 @@ callOf r =
       event = r .event;
       a = r .a;
       b = r .b;
-      state = r .state;
+      state = image (r .state);
       input = r .input;
       output = lent r;
     }
@@ -44,7 +47,7 @@ abbrev pub answers : CaseRow → Answer → Bool
 answers r given =
     eqb (given .outcome) (r .outcome)
     && (eqb (given .wrote) (length (r .message))
-    && (same (given .state) (r .next) && same (given .output) (over (r .message) (lent r))))
+    && (same (given .state) (image (r .next)) && same (given .output) (over (r .message) (lent r))))
 
 -- The step gives what the row says.
 unfoldable pub holds : CaseRow → Bool

@@ -9,7 +9,6 @@ use Rattle.text.specs.Ascii.{ascii}
 use Rattle.command.specs.Command.{Command}
 use Rattle.command.specs.Entry.{Entry}
 use Rattle.state.specs.State.{Kept, Pair, follower, candidate, leader, State}
-use Rattle.state.specs.Image.{image}
 use Rattle.rules.specs.Row.{CaseRow}
 
 -- ---- commands
@@ -78,8 +77,8 @@ end-text = ascii "type=append-yes\nterm=1\nfrom=2\nto=1\nend=1\n"
 
 -- ---- rows
 
--- Hub h of n takes an event (1 start, 2 propose, 3 send, 4 restart, 5 receive) with the numbers a and b at these bytes.
-abbrev pub stepRow : ℕ → ℕ → ℕ → ℕ → ℕ → ℕ → List ℕ → List ℕ → ℕ → List ℕ → List ℕ → CaseRow
+-- Hub h of n takes an event (1 start, 2 propose, 3 send, 4 restart, 5 receive) with the numbers a and b at this state.
+abbrev pub stepRow : ℕ → ℕ → ℕ → ℕ → ℕ → ℕ → State → List ℕ → ℕ → State → List ℕ → CaseRow
 stepRow case h n event a b state input outcome next message =
     record {
       case = case;
@@ -97,8 +96,8 @@ stepRow case h n event a b state input outcome next message =
 
 -- A row of three hubs that takes effect, from one state to another. (A send goes to hub 2, from prev 0.)
 abbrev pub does : ℕ → ℕ → ℕ → State → List ℕ → State → List ℕ → CaseRow
-does case h event s input next message = stepRow case h 3 event 2 0 (image s) input 0 (image next) message
+does case h event s input next message = stepRow case h 3 event 2 0 s input 0 next message
 
 -- A row of three hubs that is refused with this outcome, and leaves the state.
 abbrev pub refused : ℕ → ℕ → ℕ → State → List ℕ → ℕ → CaseRow
-refused case h event s input outcome = stepRow case h 3 event 2 0 (image s) input outcome (image s) []
+refused case h event s input outcome = stepRow case h 3 event 2 0 s input outcome s []
