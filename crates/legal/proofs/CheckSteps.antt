@@ -2,18 +2,19 @@
 -- Over plain variables, so that a function's proof only names a law. Assumes nothing.
 use Prim.Native.Nat.{ℕ, zero, suc, _+_, _-_, _*_, _≤_, _<_}
 use native.Mathlib.Omega.{arith}
-use native.Mathlib.Numerals.{add-one}
+use native.Mathlib.Nat.{add-zero}
 use mathlib.Core.Path.{_≡_, refl, sym, _∙_, ap}
 use mathlib.Core.Bool.{Bool, true, false, false≢true, not, _&&_, _||_, and-false}
 use mathlib.Core.List.{List, [], _∷_, _++_, map}
 use borrow.Author.Tests.{eqb-true, leb-true, ltb-true, le-leb, lt-ltb}
 use lib.Dec.{eqb, leb, ltb}
-use lib.ListN.{length, take, drop, getD, take-append-drop, length-drop}
-use lib.Seq.{take-all, drop-drop, drop-cons}
+use lib.ListN.{length, take, drop, getD, length-drop}
+use lib.Seq.{take-all}
 use Rattle.kinds.specs.Sizes.{Who, between, hubs-most, limit, row-size}
 use Rattle.command.specs.Words.{part}
 use Rattle.command.specs.Command.{legalCommand}
 use Rattle.rows.specs.Rows.{rowOf, legalRows, rowsIn}
+use Rattle.rows.proofs.PartLaws.{part-split, wordAt-byte, byte-part}
 use Rattle.rows.proofs.RowLaws.{rowsIn-map}
 use Rattle.rows.proofs.LegalLaws.{entries-held}
 use Rattle.state.specs.State.{Pair}
@@ -24,7 +25,6 @@ use Rattle.state.specs.Table.{pairRow}
 use Rattle.state.specs.Head.{headIn, isFlag, isNone, keptHead, votersIn, confirmedIn, followerHead, candidateHead, leaderHead, roleHead}
 use Rattle.state.specs.Check.{legalLog, legalGathered, zeros, checkedHead, checkedTable, Room}
 use Rattle.kinds.proofs.BoolLaws.{and-first, and-fails, and-alone, each-holds, same-test}
-use Rattle.state.proofs.LegalLaws.{all-ends}
 
 -- ---- rows
 
@@ -65,56 +65,82 @@ gathered-rows term n l e f g =
 
 -- ---- zeros
 
--- One byte more.
-pub zeros-goes : (l : List ℕ) (i : ℕ) (clean : Bool) →
-    i < length l →
-    (clean && zeros (drop i l)) ≡ ((clean && eqb (getD l i 0) 0) && zeros (drop (i + 1) l))
-unfolding zeros all
-zeros-goes l i clean h = rw (drop-cons l i 0 h, add-one) (and-then clean (eqb (getD l i 0) 0) (zeros (drop (suc i) l)))
-
--- No byte is left.
-pub zeros-ends : (l : List ℕ) (i : ℕ) (clean : Bool) → length l ≤ i → (clean && zeros (drop i l)) ≡ clean
-unfolding zeros
-zeros-ends l i clean h = rw (all-ends (λ b. eqb b 0) l i h) (and-alone clean)
-
--- Tests of two lists, the first of each in front.
-shuffle : (c p x q y : Bool) → (c && ((p && x) && (q && y))) ≡ ((c && (p && q)) && (x && y))
-shuffle false p x q y = refl
-shuffle true false x q y = refl
-shuffle true true false q y = sym (and-false q)
-shuffle true true true q y = refl
-
--- Two lists at once, one byte more of each.
-pub pair-goes : (a b : List ℕ) (i : ℕ) (clean : Bool) →
-    i < length a →
-    i < length b →
-    (clean && (zeros (drop i a) && zeros (drop i b)))
-    ≡ ((clean && (eqb (getD a i 0) 0 && eqb (getD b i 0) 0)) && (zeros (drop (i + 1) a) && zeros (drop (i + 1) b)))
-unfolding zeros all
-pair-goes a b i clean h g =
-    rw (drop-cons a i 0 h, drop-cons b i 0 g, add-one)
-    (shuffle clean (eqb (getD a i 0) 0) (zeros (drop (suc i) a)) (eqb (getD b i 0) 0) (zeros (drop (suc i) b)))
-
--- The first list is passed.
-pub pair-ends : (a b : List ℕ) (i : ℕ) (clean : Bool) → length a ≤ i → (clean && (zeros (drop i a) && zeros (drop i b))) ≡ (clean && zeros (drop i b))
-unfolding zeros
-pair-ends a b i clean h = rw (all-ends (λ b. eqb b 0) a i h)
-
 -- Two lists, one behind the other.
 zeros-append : (a b : List ℕ) → zeros (a ++ b) ≡ (zeros a && zeros b)
 unfolding zeros all
 zeros-append [] b = refl
 zeros-append (x ∷ a) b = rw (zeros-append a b) (and-then (eqb x 0) (zeros a) (zeros b))
 
--- Two parts, one behind the other, as a slice is cut in two.
-pub zeros-split : (l : List ℕ) (from m : ℕ) → from ≤ m →
-    (zeros (take (m - from) (drop from l)) && zeros (take (length l - m) (drop m l))) ≡ zeros (drop from l)
-zeros-split l from m h =
-    let n = m - from in
-    let e : m ≡ from + n = omega arith in
-    let rest : take (length l - m) (drop m l) ≡ drop m l = take-all (length l - m) (drop m l) (omega (arith, length-drop m l)) in
-    let cut : drop m l ≡ drop n (drop from l) = ap (λ (k : ℕ). drop k l) e ∙ sym (drop-drop n from l) in
-    rw (rest, cut) (sym (zeros-append (take n (drop from l)) (drop n (drop from l))) ∙ rw take-append-drop)
+-- Two parts, one behind the other.
+zeros-two : (l : List ℕ) (at m n : ℕ) → zeros (part at (m + n) l) ≡ (zeros (part at m l) && zeros (part (at + m) n l))
+zeros-two l at m n = rw (part-split l at m n) (zeros-append (part at m l) (part (at + m) n l))
+
+-- What is left of a part at turn i: a byte, and what is left at the next.
+rest-goes : (l : List ℕ) (at n i : ℕ) →
+    at + n ≤ length l →
+    i < n →
+    zeros (part (at + i) (n - i) l) ≡ (eqb (getD l (at + i) 0) 0 && zeros (part (at + (i + 1)) (n - (i + 1)) l))
+unfolding zeros all
+rest-goes l at n i room h =
+    let e : n - i ≡ 1 + (n - (i + 1)) = omega arith in
+    let f : at + i + 1 ≡ at + (i + 1) = omega arith in
+    rw (e, zeros-two l (at + i) 1 (n - (i + 1)), byte-part l (at + i) (omega arith), wordAt-byte l (at + i) (omega arith), f, and-alone)
+
+rest-ends : (l : List ℕ) (at n i : ℕ) → n ≤ i → zeros (part (at + i) (n - i) l) ≡ true
+unfolding zeros all part
+rest-ends l at n i h =
+    let e : n - i ≡ 0 = omega arith in
+    rw e
+
+-- Two tests and what is behind each: the tests in front.
+fronts : (p x q y : Bool) → ((p && x) && (q && y)) ≡ ((p && q) && (x && y))
+fronts true true q y = refl
+fronts true false q y = sym (and-false q)
+fronts false x q y = refl
+
+-- The four quarters of rows, each from turn i on.
+module _ (l : List ℕ) (at : ℕ) where
+  pub quarters : ℕ → ℕ → Bool
+  quarters n i =
+      (zeros (part (at + i) (n - i) l) && zeros (part (at + n + i) (n - i) l))
+      && (zeros (part (at + n + n + i) (n - i) l) && zeros (part (at + n + n + n + i) (n - i) l))
+
+  -- At first they are the rows.
+  pub quarters-begin : (rows n : ℕ) → n ≡ rows * 5 → zeros (part at (rows * row-size) l) ≡ quarters n 0
+  unfolding quarters
+  quarters-begin rows n h =
+      let e : rows * row-size ≡ (n + n) + (n + n) = omega arith in
+      let f : at + (n + n) ≡ at + n + n = omega arith in
+      let z : n - 0 ≡ n = omega arith in
+      rw (z, e, zeros-two l at (n + n) (n + n), zeros-two l at n n, zeros-two l (at + (n + n)) n n, f) (simp add-zero)
+
+  -- A byte of each, and what is left of each.
+  pub quarters-go : (n i : ℕ) (clean : Bool) →
+      at + n + n + n + n ≤ length l →
+      i < n →
+      (clean && quarters n i)
+      ≡ ((clean
+      && ((eqb (getD l (at + i) 0) 0 && eqb (getD l (at + n + i) 0) 0)
+      && (eqb (getD l (at + n + n + i) 0) 0 && eqb (getD l (at + n + n + n + i) 0) 0)))
+      && quarters n (i + 1))
+  unfolding quarters
+  quarters-go n i clean room h =
+      rw (
+        rest-goes l at n i (omega arith) h,
+        rest-goes l (at + n) n i (omega arith) h,
+        rest-goes l (at + n + n) n i (omega arith) h,
+        rest-goes l (at + n + n + n) n i (omega arith) h,
+        fronts (eqb (getD l (at + i) 0) 0),
+        fronts (eqb (getD l (at + n + n + i) 0) 0),
+        fronts (eqb (getD l (at + i) 0) 0 && eqb (getD l (at + n + i) 0) 0),
+      )
+      (and-then clean _ _)
+
+  -- Nothing is left.
+  pub quarters-end : (n i : ℕ) (clean : Bool) → n ≤ i → (clean && quarters n i) ≡ clean
+  unfolding quarters
+  quarters-end n i clean h =
+      rw (rest-ends l at n i h, rest-ends l (at + n) n i h, rest-ends l (at + n + n) n i h, rest-ends l (at + n + n + n) n i h) (and-alone clean)
 
 -- ---- the table
 
@@ -136,23 +162,25 @@ module _ (l : List ℕ) (h : Head) (read : h ≡ headIn l) (log : Bool) (log-is 
     table-gathered e f = rw (← read, ← log-is, e, ← gathered-here, f)
 
     -- Both are: the unused bytes decide.
-    pub table-zeros : log ≡ true → gathered ≡ true → (rest : ℕ) → rest ≡ second + h .gathered .0 * row-size → checkedTable l ≡ zeros (drop rest l)
+    pub table-zeros : log ≡ true → gathered ≡ true → checkedTable l ≡ zeros (drop (head-size + (h .length .0 + h .gathered .0) * row-size) l)
     unfolding checkedTable
-    table-zeros e f rest rest-is =
-        let end : rest ≡ head-size + (h .length .0 + h .gathered .0) * row-size = omega arith in
-        rw (← read, ← log-is, e, ← gathered-here, f, end)
+    table-zeros e f = rw (← read, ← log-is, e, ← gathered-here, f)
+
+-- The rows behind the first ones are all that is left of the bytes.
+pub rest-zeros : (l : List ℕ) (n from most : ℕ) → from ≡ head-size + n * row-size → most ≡ limit → length l ≡ state-size → n ≤ limit →
+    zeros (part from ((most - n) * row-size) l) ≡ zeros (drop (head-size + n * row-size) l)
+unfolding part state-size
+rest-zeros l n from most from-is most-is long h =
+    rw (take-all ((most - n) * row-size) (drop from l) (omega (arith, length-drop from l)), from-is)
+
+-- Each row has a place.
+pub rows-fit : (l : List ℕ) (h : Head) → h ≡ headIn l → Room l → h .length .0 + h .gathered .0 ≤ limit
+rows-fit l h read r = rw read (r .fits)
 
 -- All rows stand within the bytes.
 pub table-there : (l : List ℕ) (h : Head) → h ≡ headIn l → Room l → head-size + (h .length .0 + h .gathered .0) * row-size ≤ length l
 unfolding state-size
-table-there l h read r =
-    let fits : h .length .0 + h .gathered .0 ≤ limit = rw read (r .fits) in
-    omega (arith, r .long)
-
--- A head at least.
-pub head-there : (l : List ℕ) → Room l → head-size ≤ length l
-unfolding state-size
-head-there l r = omega (arith, r .long)
+table-there l h read r = omega (arith, rows-fit l h read r, r .long)
 
 -- ---- the head
 

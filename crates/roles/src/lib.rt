@@ -3,7 +3,7 @@ ghost use mathlib.Core.Path.{_≡_};
 ghost use Prim.Native.Nat.{_≤_};
 ghost use lib.ListN.{length};
 ghost use Rattle.state.specs.Image.{head-size};
-ghost use Rattle.state.specs.Head.{keptHead, followerHead, candidateHead, leaderHead, roleHead};
+ghost use Rattle.state.specs.Head.{headIn, keptHead, followerHead, candidateHead, leaderHead, roleHead};
 ghost use Rattle.state.specs.Check.{who, checkedHead};
 use kinds::Hub;
 use state::Head;
@@ -78,14 +78,13 @@ fn is_role_head(size: u32, own: Hub, h: Head) -> bool
     false
 }
 
-// All tests of the head.
-pub fn is_legal_head(size: u32, own: Hub, s: &[u8]) -> bool
-    requires { ⌜ head-size ≤ length (now s) ⌝ }
+// All tests of the head, which was read from these bytes.
+pub fn is_legal_head(size: u32, own: Hub, h: Head, s: &[u8]) -> bool
+    requires { ⌜ (head-size ≤ length (now s)) × (h ≡ headIn (now s)) ⌝ }
     ensures { λ r. ⌜ r ≡ checkedHead (who size (own .0)) (now (s .entry)) ⌝ }
 {
     if !voters::are_flags(s, 21) {
         return false;
     }
-    let h = head::read_head(s);
     is_kept_head(h) & is_role_head(size, own, h)
 }

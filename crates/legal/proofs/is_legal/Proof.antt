@@ -19,13 +19,16 @@ other-length c =
     (state-length (who (start .args .size) (start .args .own .0)) (now (start .args .s)) (λ e. c .if1 .taken (e ∙ sym (c .before .state-bytes .ensures))))
 
 -- The head is there.
-head-there : tie.Need-is-legal-head-requires
+head-there : tie.Need-read-head-requires
 head-there c κs = omega (arith, size-least, c .before .state-bytes .ensures, c .if1 .left)
+
+head-tested : tie.Need-is-legal-head-requires
+head-tested c κs = (omega (arith, size-least, c .before .before .state-bytes .ensures, c .before .if1 .left), c .read-head .ensures)
 
 -- The head is not legal.
 head-not : tie.Need-returns-2
 head-not c =
-    let sized = c .before .before in
+    let sized = c .before .before .before in
     let start = sized .before .before .before in
     let l = now (start .args .s) in
     let w = who (start .args .size) (start .args .own .0) in
@@ -37,16 +40,16 @@ head-not c =
 -- A legal head leaves room for its rows.
 rows-fit : tie.Need-is-legal-table-requires
 rows-fit c κs =
-    let sized = c .before .before in
+    let sized = c .before .before .before in
     let start = sized .before .before .before in
     let long = sized .if1 .left ∙ sized .before .state-bytes .ensures in
     let head = sym (c .before .is-legal-head .ensures) ∙ not-false _ (c .if2 .left) in
-    head-room (who (start .args .size) (start .args .own .0)) (now (start .args .s)) long head
+    (head-room (who (start .args .size) (start .args .own .0)) (now (start .args .s)) long head, c .before .before .read-head .ensures)
 
 -- The table decides.
 table : tie.Need-returns-3
 table c =
-    let sized = c .before .before .before in
+    let sized = c .before .before .before .before in
     let start = sized .before .before .before in
     let l = now (start .args .s) in
     let w = who (start .args .size) (start .args .own .0) in
@@ -55,4 +58,4 @@ table c =
     c .is-legal-table .ensures ∙ sym (state-checked w l (λ i. sized .before .before .shared-slice-known .given i .fits) long ∙ and-holds _ head)
 
 pub is-legal-spec : {M : Type 1} → statement M
-is-legal-spec = tie.close (tie.spec (λ c κs. search needs) other-length head-there head-not rows-fit table)
+is-legal-spec = tie.close (tie.spec (λ c κs. search needs) other-length head-there head-tested head-not rows-fit table)

@@ -18,13 +18,13 @@ not-flags c =
 -- The tests of the numbers decide.
 numbers : tie.Need-returns-2
 numbers c =
-    let at-flags = c .before .before .before .before in
+    let at-flags = c .before .before .before in
     let start = at-flags .before .before in
-    let flags = sym (at-flags .are-flags .ensures) ∙ not-false _ (c .before .before .before .if1 .left) in
+    let flags = sym (at-flags .are-flags .ensures) ∙ not-false _ (c .before .before .if1 .left) in
     head-tests (who (start .args .size) (start .args .own .0)) (now (start .args .s)) flags
-    (c .before .before .read-head .ensures) (c .before .is-kept-head .ensures) (c .is-role-head .ensures)
+    (start .pre .1) (c .before .is-kept-head .ensures) (c .is-role-head .ensures)
 
 pub is-legal-head-spec : {M : Type 1} → statement M
 is-legal-head-spec =
     tie.close
-    (tie.spec (λ c κs. search needs) not-flags (λ c κs. search needs) (λ c κs. search needs) (λ c κs. search needs) numbers)
+    (tie.spec (λ c κs. search needs) not-flags (λ c κs. search needs) (λ c κs. search needs) numbers)
