@@ -36,7 +36,7 @@ extern "C" {
 
 /* ---- Version: 10,000 for each major version, 100 for each minor one, 1 for each patch. */
 
-#define KRITNAMON_VERSION 10200u  /* 1.2.0 */
+#define KRITNAMON_VERSION 20000u  /* 2.0.0 */
 
 /* The version of the library that was linked. Firmware compares it with KRITNAMON_VERSION, that of
  * the header, once when it starts. Proved: kritnamon_version in crates/kritnamon. */
@@ -121,9 +121,9 @@ uint32_t kritnamon_read_command(const uint8_t *bytes, size_t length, uint32_t *n
 uint32_t kritnamon_write_command(uint32_t motor, uint32_t kind, int32_t duration, uint32_t a, uint32_t b,
                                  uint8_t *out, size_t length);
 
-/* ---- Messages: lines `key=value`, each ended by LF, at most 16,384 bytes. */
+/* ---- Messages: lines `key=value`, each ended by LF, at most 65,536 bytes. */
 
-#define KRITNAMON_TEXT_MOST 16384u
+#define KRITNAMON_TEXT_MOST 65536u
 
 /* Types, in the order of the rules. */
 #define KRITNAMON_VOTE_REQUEST 1u  /* own numbers: last, ballot */
@@ -167,7 +167,7 @@ uint64_t kritnamon_read_message(const uint8_t *text, size_t length, uint32_t *nu
  *   numbers  eight, as kritnamon_read_message gives them
  *   rows     as many rows as KRITNAMON_COUNT says, and no other bytes
  *   out      at least KRITNAMON_TEXT_MOST bytes
- * KRITNAMON_OUTCOME of what is returned is KRITNAMON_SHORT_OUTPUT if out_length is below 16,384, then
+ * KRITNAMON_OUTCOME of what is returned is KRITNAMON_SHORT_OUTPUT if out_length is below 65,536, then
  * KRITNAMON_BAD_MESSAGE if count is not 8, the type is none of the six, a number that the type does
  * not have is not 0, rows_length is not that of the rows, or the message is not legal; either leaves
  * all bytes, with 0 as KRITNAMON_SECOND. Else it is KRITNAMON_DONE, and KRITNAMON_SECOND is the text's
@@ -178,8 +178,13 @@ uint64_t kritnamon_write_message(const uint32_t *numbers, size_t count, const ui
 /* ---- States: bytes that the caller keeps and lends. A fresh hub's are all zero. docs/LAYOUT.md says
  * what they hold, and which are legal. */
 
-#define KRITNAMON_STATE_SIZE 5176u
-#define KRITNAMON_PLACES     256u
+#define KRITNAMON_STATE_SIZE 20536u
+#define KRITNAMON_PLACES     1024u  /* of the log: as many commands in a night */
+
+/* A state of the versions before 2.0.0 has 5,176 bytes, for 256 places. All that it holds stands where it
+ * stands now: with zero bytes behind it, up to KRITNAMON_STATE_SIZE, it is the same state here. A hub of
+ * those versions refuses with KRITNAMON_BAD_MESSAGE what tells of a place above 256, so all hubs of a
+ * group are to have one version before a log grows beyond that. */
 
 /* Where in a state firmware may look, to read and never to write. Numbers have four bytes, big-endian;
  * the role is one byte. */

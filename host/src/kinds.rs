@@ -4,16 +4,16 @@
 use crate::command;
 
 /// The greatest place of a log.
-pub const LIMIT: u32 = 256;
+pub const LIMIT: u32 = 1_024;
 
 /// The largest group; tables with a part for each hub have this many parts.
 pub const HUBS: usize = 7;
 
 /// The shortest output lent for a message.
-pub const OUTPUT_LEAST: usize = 16_384;
+pub const OUTPUT_LEAST: usize = 65_536;
 
 /// The longest message text looked at.
-pub const INPUT_MOST: usize = 16_384;
+pub const INPUT_MOST: usize = 65_536;
 
 /// A hub's number, from 1; in a message 0 stands for all.
 #[derive(Clone, Copy, Debug, PartialEq, Eq, PartialOrd, Ord)]

@@ -1,4 +1,4 @@
-//! A hub's state in lent bytes: a head of 56 bytes and a table of 256 rows of 20, numbers big-endian.
+//! A hub's state in lent bytes: a head of 56 bytes and a table of 1,024 rows of 20, numbers big-endian.
 //!
 //! | at | holds |
 //! |---|---|

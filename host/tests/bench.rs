@@ -16,7 +16,7 @@ fn log_of_one() -> Vec<(u32, Command)> {
 
 #[test]
 fn fresh_is_all_zero() {
-    assert_eq!(Image::default().bytes(), vec![0; 5_176]);
+    assert_eq!(Image::default().bytes(), vec![0; 20_536]);
 }
 
 #[test]
@@ -74,9 +74,9 @@ fn case_08_last_term() {
 
 #[test]
 fn case_09_full_log() {
-    let before = leader(1, 0, &[1; 255], &[255]);
-    let mut full = leader(1, 0, &[1; 256], &[256]);
-    full.log[255].1 = bytes(HEX);
+    let before = leader(1, 0, &[1; 1_023], &[1_023]);
+    let mut full = leader(1, 0, &[1; 1_024], &[1_024]);
+    full.log[1_023].1 = bytes(HEX);
     done(&ONE.propose(&before, &bytes(HEX)), &full, "");
     refused(&ONE.propose(&full, &bytes(HEX)), 11);
 }

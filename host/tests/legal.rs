@@ -50,10 +50,11 @@ fn chosen_and_length() {
     accept(&follower(2, 2, 2, &[1, 2]));
     refuse(&follower(2, 2, 3, &[1, 2]));
     refuse(&follower(2, 2, u32::MAX, &[1, 2]));
-    accept(&follower(2, 2, 256, &[1; 256]));
-    refuse(&follower(2, 2, 257, &[1; 256]));
-    for length in [257, 1 << 16, u32::MAX] {
-        let mut long = follower(2, 2, 256, &[1; 256]).bytes();
+    accept(&follower(2, 2, 257, &[1; 257]));
+    accept(&follower(2, 2, 1_024, &[1; 1_024]));
+    refuse(&follower(2, 2, 1_025, &[1; 1_024]));
+    for length in [1_025, 1 << 16, u32::MAX] {
+        let mut long = follower(2, 2, 1_024, &[1; 1_024]).bytes();
         long[12..16].copy_from_slice(&u32::to_be_bytes(length));
         assert!(!ONE.accepts(&long) && !ONE.restarts(&long));
     }
@@ -77,8 +78,8 @@ fn entry_terms_and_commands() {
             refuse(&image);
         }
     }
-    let mut full = follower(1, 1, 256, &[1; 256]);
-    full.log[255].0 = 2;
+    let mut full = follower(1, 1, 1_024, &[1; 1_024]);
+    full.log[1_023].0 = 2;
     refuse(&full);
 }
 
@@ -142,9 +143,9 @@ fn candidate_gathered() {
     refuse_at(ONE, &hub(&[(6, command(1))]));
     refuse_at(ONE, &hub(&[(1, command(1)), (7, command(2))]));
     refuse_at(ONE, &hub(&[(1, command(1)), (1, [0; 16])]));
-    accept_at(ONE, &hub(&vec![(1, command(1)); 254]));
-    for count in [255, 256, 1 << 16, u32::MAX, u32::MAX - 1] {
-        let mut over = hub(&vec![(1, command(1)); 254]).bytes();
+    accept_at(ONE, &hub(&vec![(1, command(1)); 1_022]));
+    for count in [1_023, 1_024, 1 << 16, u32::MAX, u32::MAX - 1] {
+        let mut over = hub(&vec![(1, command(1)); 1_022]).bytes();
         over[16..20].copy_from_slice(&u32::to_be_bytes(count));
         assert!(!ONE.accepts(&over), "{count}");
     }

@@ -250,15 +250,15 @@ fn outcome_12_send() {
 #[test]
 fn longest_messages() {
     let top = u32::MAX;
-    let leads = leader(top, 256, &[top; 256], &[256, 256]);
+    let leads = leader(top, 1_024, &[top; 1_024], &[1_024, 1_024]);
     let after = ONE.send(&leads, 2, 0);
     done(
         &after,
         &leads,
-        &append(top, [1, 2], 0, 0, 256, &(1..=256).map(|at| entry(top, at)).collect::<Vec<_>>()),
+        &append(top, [1, 2], 0, 0, 1_024, &(1..=1_024).map(|at| entry(top, at)).collect::<Vec<_>>()),
     );
     let taken = Image { role: FOLLOWER, confirmed: [0; 7], ..leads };
-    done(&TWO.receive(&Image::default(), &after.text), &taken, &end(top, 2, 1, 256));
+    done(&TWO.receive(&Image::default(), &after.text), &taken, &end(top, 2, 1, 1_024));
 }
 
 // ---- 13
@@ -338,10 +338,10 @@ fn order_of_received_faults() {
 #[test]
 fn order_of_own_faults() {
     refused(&ONE.start(&leader(u32::MAX, 0, &[], &[])), 8);
-    refused(&ONE.propose(&follower(1, 1, 0, &[1; 256]), b""), 8);
+    refused(&ONE.propose(&follower(1, 1, 0, &[1; 1_024]), b""), 8);
     refused(&ONE.send(&follower(1, 1, 0, &[]), 0, 9), 8);
-    refused(&ONE.propose(&follower(1, 1, 0, &[1; 256]), &command(19)), 8);
-    let full = leader(1, 0, &[1; 256], &[256]);
+    refused(&ONE.propose(&follower(1, 1, 0, &[1; 1_024]), &command(19)), 8);
+    let full = leader(1, 0, &[1; 1_024], &[1_024]);
     refused(&ONE.propose(&full, b""), 10);
     refused(&ONE.propose(&full, &command(19)), 10);
     refused(&ONE.propose(&full, &command(20)), 11);
@@ -394,7 +394,7 @@ fn vote_rule() {
     let held = follower(4, 3, 1, &[1, 2, 3]);
     let voted = follower(5, 3, 1, &[1, 2, 3]);
     let all = [entry(1, 1), entry(2, 2), entry(3, 3)];
-    for (last, first) in [(0, 0), (1, 1), (2, 2), (3, 3), (4, 3), (256, 3)] {
+    for (last, first) in [(0, 0), (1, 1), (2, 2), (3, 3), (4, 3), (257, 3), (1_024, 3)] {
         done(&TWO.receive(&held, &request(5, 1, last, 3)), &voted, &yes(5, 2, 1, last, 3, &all[first..]));
     }
     done(&TWO.receive(&held, &request(5, 1, 0, 4)), &voted, &yes(5, 2, 1, 0, 3, &all));
@@ -408,7 +408,7 @@ fn vote_rule() {
 #[test]
 fn an_empty_log_says_yes() {
     let empty = follower(4, 3, 0, &[]);
-    for (last, ballot) in [(0, 0), (0, 2), (7, 2), (0, 3), (256, 4)] {
+    for (last, ballot) in [(0, 0), (0, 2), (7, 2), (0, 3), (257, 4), (1_024, 4)] {
         let asked = request(5, 1, last, ballot);
         done(&TWO.receive(&empty, &asked), &follower(5, 3, 0, &[]), &yes(5, 2, 1, last, 0, &[]));
     }
@@ -470,11 +470,11 @@ fn majority_leads() {
 
 #[test]
 fn gathering_fills_the_log() {
-    let asks = candidate(2, 1, &[1; 250], &[1]);
-    let text = yes(2, 3, 1, 250, 1, &[251, 252, 253, 254, 255, 256].map(|at| entry(1, at)));
-    let mut terms = vec![1; 250];
+    let asks = candidate(2, 1, &[1; 1_018], &[1]);
+    let text = yes(2, 3, 1, 1_018, 1, &[1_019, 1_020, 1_021, 1_022, 1_023, 1_024].map(|at| entry(1, at)));
+    let mut terms = vec![1; 1_018];
     terms.extend([2; 6]);
-    done(&ONE.receive(&asks, &text), &leader(2, 0, &terms, &[256]), "");
+    done(&ONE.receive(&asks, &text), &leader(2, 0, &terms, &[1_024]), "");
 }
 
 #[test]

@@ -5,7 +5,7 @@ use common::*;
 use independent::message::{self, Append, Body, Entries, Message};
 use independent::{Entry, Hub, Outcome, Place, Term};
 
-const LAST_ENTRY: u32 = 256;
+const LAST_ENTRY: u32 = 1_024;
 
 /// Read, and written back to the same bytes.
 #[track_caller]
@@ -183,30 +183,36 @@ fn term_from_and_to() {
 
 #[test]
 fn places_and_counts() {
-    accept(&request(9, 256, 8));
-    refuse(&request(9, 257, 8));
+    for ordinary in [255, 256, 257] {
+        accept(&request(9, ordinary, 8));
+        accept(&append(ordinary, 9, ordinary, &[]));
+        accept(&append(0, 0, ordinary, &vec![9; ordinary as usize]));
+        accept(&yes(ordinary, 8, &[8]));
+    }
+    accept(&request(9, 1_024, 8));
+    refuse(&request(9, 1_025, 8));
     refuse(&request(9, u32::MAX, 8));
     for key in ["append-yes\nterm=9\nfrom=2\nto=1\nend", "append-no\nterm=9\nfrom=2\nto=1\nlength"] {
         accept(&format!("type={key}=0\n"));
-        accept(&format!("type={key}=256\n"));
-        refuse(&format!("type={key}=257\n"));
+        accept(&format!("type={key}=1024\n"));
+        refuse(&format!("type={key}=1025\n"));
         refuse(&format!("type={key}=4294967295\n"));
     }
     let all = vec![9; LAST_ENTRY as usize + 1];
-    accept(&append(0, 0, 256, &all[..256]));
-    refuse(&append(0, 0, 256, &all));
-    accept(&append(256, 9, 256, &[]));
-    refuse(&append(257, 9, 256, &[]));
-    accept(&append(255, 9, 256, &[9]));
-    refuse(&append(256, 9, 256, &[9]));
-    refuse(&append(255, 9, 256, &[9, 9]));
+    accept(&append(0, 0, 1_024, &all[..1_024]));
+    refuse(&append(0, 0, 1_024, &all));
+    accept(&append(1_024, 9, 1_024, &[]));
+    refuse(&append(1_025, 9, 1_024, &[]));
+    accept(&append(1_023, 9, 1_024, &[9]));
+    refuse(&append(1_024, 9, 1_024, &[9]));
+    refuse(&append(1_023, 9, 1_024, &[9, 9]));
     let all = vec![8; LAST_ENTRY as usize + 1];
-    accept(&yes(0, 8, &all[..256]));
+    accept(&yes(0, 8, &all[..1_024]));
     refuse(&yes(0, 8, &all));
-    accept(&yes(256, 8, &[]));
-    refuse(&yes(257, 8, &[]));
-    accept(&yes(255, 8, &[8]));
-    refuse(&yes(256, 8, &[8]));
+    accept(&yes(1_024, 8, &[]));
+    refuse(&yes(1_025, 8, &[]));
+    accept(&yes(1_023, 8, &[8]));
+    refuse(&yes(1_024, 8, &[8]));
     // Sums that would wrap around.
     refuse("type=vote-yes\nterm=9\nfrom=2\nto=1\nlast=1\nballot=3\ncount=4294967295\n");
     refuse(
@@ -337,9 +343,9 @@ fn hex_of(number: u32) -> String {
 
 #[test]
 fn too_long() {
-    refuse(&"\n".repeat(16_384));
-    refuse(&"\n".repeat(16_385));
-    refuse(&format!("{}{}", samples()[2], "x".repeat(16_384)));
+    refuse(&"\n".repeat(65_536));
+    refuse(&"\n".repeat(65_537));
+    refuse(&format!("{}{}", samples()[2], "x".repeat(65_536)));
 }
 
 // ---- written alone

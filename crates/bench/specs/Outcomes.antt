@@ -116,7 +116,7 @@ examples =
     ∷ stepRow 1 1 3 0 0 0 fresh [] 1 fresh []
     -- 2 stands below
     -- 3
-    ∷ roomFor 16_383 (refused 3 1 4 fresh [] 3)
+    ∷ roomFor 65_535 (refused 3 1 4 fresh [] 3)
     -- 4: a leading zero; a line too many; no text at all; a prevterm without a prev; an illegal command
     ∷ refused 4 1 5 fresh (ascii "type=vote-no\nterm=01\nfrom=2\nto=1\n") 4
     ∷ refused 4 1 5 fresh (ascii "type=vote-no\nterm=1\nfrom=2\nto=1\n\n") 4

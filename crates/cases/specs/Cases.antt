@@ -62,8 +62,8 @@ caseTable =
     ∷ does 8 1 1 (followerWith (kept 4_294_967_294 0 0 [])) [] (candidateWith (kept 4_294_967_295 0 0 []) hub1Alone [])
     (ascii "type=vote-request\nterm=4294967295\nfrom=1\nto=0\nlast=0\nballot=0\n")
     ∷ refused 8 1 1 (followerWith (kept 4_294_967_295 0 0 [])) [] 9
-    ∷ does 9 1 2 (long 255) (buzzBytes ms250 halfGain) (long 256) []
-    ∷ refused 9 1 2 (long 256) (buzzBytes ms250 halfGain) 11
+    ∷ does 9 1 2 (long 1_023) (buzzBytes ms250 halfGain) (long 1_024) []
+    ∷ refused 9 1 2 (long 1_024) (buzzBytes ms250 halfGain) 11
     ∷ does 10 1 2 elected (buzzBytes (0 ∷ 0x09 ∷ 0x27 ∷ 0xc0 ∷ []) halfGain) (withOne (buzzing (pos 600_000) 0x3f00_0000)) []
     ∷ refused 10 1 2 elected (buzzBytes (0 ∷ 0x09 ∷ 0x27 ∷ 0xc1 ∷ []) halfGain) 10
     ∷ refused 10 1 2 elected (buzzBytes (0xff ∷ 0xff ∷ 0xff ∷ 0xff ∷ []) halfGain) 10

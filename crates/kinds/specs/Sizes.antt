@@ -45,13 +45,13 @@ majority n = n / 2 + 1
 abbrev pub term-most : ℕ
 term-most = 4_294_967_295
 
--- Log: places 1..256. One name for the limit: nothing else knows the number.
+-- Log: places 1..1,024. One name for the limit: nothing else knows the number.
 unfoldable pub limit : ℕ
-limit = 256
+limit = 1_024
 
--- Output buffer: at least 16,384 bytes. Input message: at most 16,384 bytes.
+-- Output buffer: at least 65,536 bytes. Input message: at most 65,536 bytes.
 unfoldable pub text-room : ℕ
-text-room = 16_384
+text-room = 65_536
 
 -- An entry takes a row of 20 bytes: four of its number, 16 of its command.
 abbrev pub row-size : ℕ

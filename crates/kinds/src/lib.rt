@@ -94,14 +94,14 @@ pub const ROW: usize = 20;
 pub fn places() -> u32
     ensures { λ r. ⌜ r ≡ limit ⌝ }
 {
-    256
+    1_024
 }
 
 // The most bytes of a message's text, and the least of an output.
 pub fn text_room() -> usize
     ensures { λ r. ⌜ r ≡ text-room ⌝ }
 {
-    16_384
+    65_536
 }
 
 // ---- roles

@@ -12,8 +12,8 @@ ghost use Rattle.kritnamon.specs.Version.{version};
 use kinds::Hub;
 use promise::Caller;
 
-// The version: 1.2.0.
-const VERSION: u32 = 10200;
+// The version: 2.0.0.
+const VERSION: u32 = 20000;
 
 // Reads a command's 16 bytes into the first five lent numbers: motor, kind, duration, a and b. A refusal (3: fewer than five numbers
 // lent; 10: not a legal command) leaves them all.

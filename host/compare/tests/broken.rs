@@ -25,7 +25,7 @@ const CAUGHT: [&[Reason]; 9] = [
 ];
 
 /// How many homes are tried with each variant.
-const HOMES: u64 = 40;
+const HOMES: u64 = 60;
 
 fn failure(step: Step, seed: u64, watch: fn(u32) -> Checker) -> Option<Failure> {
     Home::new(step, seed, watch).run(TURNS).err()
@@ -52,7 +52,7 @@ fn every_variant_is_caught() {
 
 /// A home for each variant, in the order of `VARIANTS`, in which it does harm: the first such seed, found by trying one after the other. A
 /// change of what a seed makes happen changes them.
-const HARMED: [u64; 9] = [5, 124, 34, 9, 323, 3, 3, 576, 19];
+const HARMED: [u64; 9] = [7, 422, 9, 18, 646, 40, 1, 483, 154];
 
 /// Nothing but the hubs' reports is looked at: two of them come to differ, or one takes back what it has reported.
 #[test]

@@ -212,7 +212,7 @@ fn restarts_leave_what_was_kept() {
     let kept = state(FOLLOWER, 1, 1, 0, &[5]);
     assert_eq!(restarts(Outcome::Done, &kept), Ok(()));
     let mut behind = kept.clone();
-    behind[row_at(256)] = 1;
+    behind[row_at(1_024)] = 1;
     let others = [state(LEADER, 1, 1, 0, &[5]), state(FOLLOWER, 2, 1, 0, &[5]), behind];
     for other in others {
         assert_eq!(restarts(Outcome::Done, &other), Err(Reason::NotWhatWasKept));

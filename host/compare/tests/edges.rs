@@ -98,7 +98,7 @@ fn change_row(scene: &Scene, tally: &mut Tally, index: u32) {
     }
 }
 
-/// A leader of a full log, and a candidate whose log and gathered entries are 256 together.
+/// A leader of a full log, and a candidate whose log and gathered entries are 1,024 together.
 fn full_scenes(rng: &mut Rng) -> [Scene; 2] {
     let group = Group::new(5, 2).expect("a group");
     let log = states::rising(rng, LIMIT, 1, 6);
@@ -197,7 +197,7 @@ fn every_room_is_answered_alike() {
         let state = scene.image.bytes();
         let mut damaged = state.clone();
         damaged[HEAD_SIZE..HEAD_SIZE + 4].fill(0);
-        for room in [0, 1, 15, 16, ROOM - 1, ROOM, ROOM + 1, 2 * ROOM, 65_536 + ROOM - 1] {
+        for room in [0, 1, 15, 16, 16_384, ROOM - 1, ROOM, ROOM + 1, ROOM + 15, 2 * ROOM] {
             for event in START..=RECEIVE {
                 tally.compare(&Call { room, ..scene.call(event, &state) });
                 tally.compare(&Call { room, ..scene.call(event, &damaged) });

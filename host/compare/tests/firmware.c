@@ -245,6 +245,30 @@ static void empty_hub(void)
     CHECK(numbers[KRITNAMON_TYPE] == KRITNAMON_VOTE_NO && numbers[KRITNAMON_TO] == 5);
 }
 
+/* What a hub of version 1 has stored when its log is full, all its 256 places, is the same state here with zero bytes behind it; and the log
+ * goes on behind them. */
+static void carried_over(void)
+{
+    static const uint8_t zeros[KRITNAMON_STATE_SIZE];
+    const uint32_t older = 5176, places = 256;
+    uint8_t command[KRITNAMON_COMMAND_SIZE];
+
+    CHECK(older == KRITNAMON_STATE_ROWS + places * KRITNAMON_ROW_SIZE);
+    stop(1, command);
+    elect(1, 2, 3);
+    while (propose(1, command) < places) {
+    }
+    CHECK(memcmp(states[1] + older, zeros, KRITNAMON_STATE_SIZE - older) == 0);
+    memcpy(states[5], states[1], older);
+    CHECK(memcmp(states[5], states[1], KRITNAMON_STATE_SIZE) == 0);
+    take(1, KRITNAMON_RESTART, 0, nothing, 0);
+    elect(1, 2, 3);
+    CHECK(propose(1, command) == places + 1);
+    send_to(1, 2);
+    send_to(1, 3);
+    CHECK(chosen(1) == places + 1 && reports(1, places + 1, command));
+}
+
 /* ---- The stack. */
 
 #define STACK_MOST 2048u /* as kritnamon.h has it */
@@ -253,7 +277,7 @@ static void empty_hub(void)
 static uint8_t stack[1 << 16];
 static ucontext_t here, there;
 
-/* The deepest calls: logs of 256 sent, taken, gathered and written. */
+/* The deepest calls: logs of 1,024 sent, taken, gathered and written. */
 static void long_logs(void)
 {
     uint8_t command[KRITNAMON_COMMAND_SIZE];
@@ -309,6 +333,7 @@ static const struct {
     {"kept-parts", kept_parts},
     {"short-command", short_command},
     {"empty-hub", empty_hub},
+    {"carried-over", carried_over},
     {"stack-use", stack_use},
 };
 

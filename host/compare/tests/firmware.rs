@@ -92,6 +92,11 @@ fn an_empty_hub_gives_its_vote() {
 }
 
 #[test]
+fn a_state_of_version_1_is_carried_over() {
+    run("carried-over");
+}
+
+#[test]
 fn a_call_takes_less_stack_than_the_header_says() {
     run("stack-use");
 }

@@ -107,7 +107,7 @@ fn doubled_missing_and_exchanged_lines_are_read_alike() {
 }
 
 /// Numbers as they must not be written, and numbers at and past every edge.
-const NUMBERS: [&str; 24] = [
+const NUMBERS: [&str; 28] = [
     "",
     "0",
     "1",
@@ -124,7 +124,11 @@ const NUMBERS: [&str; 24] = [
     "255",
     "256",
     "257",
-    "258",
+    "1023",
+    "1024",
+    "1025",
+    "1026",
+    "65536",
     "4294967294",
     "4294967295",
     "4294967296",

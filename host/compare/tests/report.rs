@@ -11,7 +11,7 @@ const STOP: [u8; 16] = [0, 9, 0, 0, 0, 0, 0, 0, 0, 0, 0, 0, 0, 0, 0, 0];
 
 /// Takes a step of hub 1 of 3 that has to take effect.
 fn take(bytes: &mut [u8], event: u32, input: &[u8]) {
-    let mut out = vec![0; 16_384];
+    let mut out = vec![0; 65_536];
     let answer = step::step(3, 1, event, 2, 0, bytes, input, &mut out);
     assert_eq!(answer.outcome, Outcome::Done, "event {event}");
 }
@@ -36,7 +36,7 @@ fn ask(bytes: &[u8], place: u32, room: usize) -> (Outcome, Vec<u8>) {
 
 #[test]
 fn sizes_are_those_of_the_layout() {
-    assert_eq!(sizes(), (STATE_SIZE, LIMIT, 16_384));
+    assert_eq!(sizes(), (STATE_SIZE, LIMIT, 65_536));
 }
 
 #[test]
@@ -55,7 +55,7 @@ fn places_up_to_chosen_are_reported() {
 #[test]
 fn nothing_else_is_reported() {
     let bytes = leader();
-    for place in [0, 3, 4, 256, 257, u32::MAX] {
+    for place in [0, 3, 4, 256, 1_024, 1_025, u32::MAX] {
         assert_eq!(ask(&bytes, place, 16), (Outcome::OutOfRange, vec![7; 16]));
     }
     assert_eq!(chosen(&vec![0; STATE_SIZE]), (Outcome::Done, 0));

@@ -4,14 +4,15 @@
 //! and `KRITNAMON_SEED` for another one. Each home has a seed of its own, which is printed if it fails: with it as
 //! `KRITNAMON_SEED` and `KRITNAMON_STEPS=1` that home alone is run.
 
-use compare::binding::call::{Call, PROPOSE, Step, exported, independent};
+use compare::binding::call::{Call, PROPOSE, RECEIVE, Step, exported, independent};
 use compare::broken::compares_when_empty;
 use compare::checker::Checker;
 use compare::generator::home::{Home, TURNS, Tally, size};
+use compare::generator::messages::fields_of;
 use compare::generator::rng::seed;
 use image::{Image, LENGTH_AT, ROW_SIZE, number_at, put_number, row_at};
-use independent::Outcome;
 use independent::command::{self, FELT_LEAST};
+use independent::{Outcome, message};
 use std::sync::atomic::{AtomicU64, Ordering};
 
 /// How many steps are taken where nothing else is asked for.
@@ -87,10 +88,49 @@ fn is_short(bytes: &[u8]) -> bool {
     command::read(bytes).is_ok_and(|command| (1..FELT_LEAST).contains(&command.duration))
 }
 
-/// A hub of version 1.0.0, to which a client may propose any legal command, and which compares ballots with an empty log too: the independent
-/// program, with a command that is too short made longer on the way in, and short again where it was stored.
+/// The places that a hub of version 1 has, and the bytes of the longest text that it reads.
+const OLDER_PLACES: u32 = 256;
+const OLDER_TEXT: usize = 16_384;
+
+/// Whether these bytes are a message that a hub of version 1 cannot read.
+fn is_beyond(text: &[u8]) -> bool {
+    let [.., start, _, _, count] = match message::read(text).message {
+        Ok(message) => fields_of(&message),
+        Err(_) => return false,
+    };
+    text.len() > OLDER_TEXT || start + count > OLDER_PLACES
+}
+
+/// How often a hub of version 1 was told of places that it does not have.
+static BEYOND: AtomicU64 = AtomicU64::new(0);
+
+/// A hub of version 1.0.0. It has fewer places: what tells of others it refuses. (With 4; 13 says it here, which leaves as much, since hubs of
+/// one version never give each other 4.) Its log is full sooner.
 fn older(call: &mut Call) -> (Outcome, u32) {
-    if call.event != PROPOSE || !is_short(call.input) {
+    match call.event {
+        RECEIVE if is_beyond(call.input) => {
+            BEYOND.fetch_add(1, Ordering::Relaxed);
+            (Outcome::NothingNew, 0)
+        }
+        PROPOSE => proposes_older(call),
+        _ => compares_when_empty(call),
+    }
+}
+
+fn proposes_older(call: &mut Call) -> (Outcome, u32) {
+    let before = call.state.to_vec();
+    let answer = proposes_any(call);
+    if answer.0 == Outcome::Done && number_at(call.state, LENGTH_AT) > OLDER_PLACES {
+        call.state.copy_from_slice(&before);
+        return (Outcome::LogFull, 0);
+    }
+    answer
+}
+
+/// A client may propose any legal command, and an empty log compares ballots too: the independent program, with a command that is too short made
+/// longer on the way in, and short again where it was stored.
+fn proposes_any(call: &mut Call) -> (Outcome, u32) {
+    if !is_short(call.input) {
         return compares_when_empty(call);
     }
     let mut longer = call.input.to_vec();
@@ -118,7 +158,8 @@ fn of_two_versions(call: &mut Call) -> (Outcome, u32) {
     answer
 }
 
-/// What hubs of version 1.0.0 were told to propose comes to the others, is kept, sent, led with and reported, and all is well.
+/// What hubs of version 1.0.0 were told to propose comes to the others, is kept, sent, led with and reported; what they have no places for they
+/// refuse; and all is well.
 #[test]
 fn homes_of_two_versions_are_multipaxos() {
     let all = run(of_two_versions);
@@ -126,4 +167,7 @@ fn homes_of_two_versions_are_multipaxos() {
     let reported = REPORTED_SHORT.load(Ordering::Relaxed);
     println!("{reported} steps with a short command reported");
     assert!(all.steps < STEPS || reported > 10_000, "short commands are reported");
+    let beyond = BEYOND.load(Ordering::Relaxed);
+    println!("{beyond} messages beyond the places of an older hub");
+    assert!(all.steps < STEPS || beyond > 1_000, "older hubs are told of places that they do not have");
 }

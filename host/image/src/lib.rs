@@ -4,14 +4,14 @@
 use std::ops::Range;
 
 /// The bytes of a state.
-pub const STATE_SIZE: usize = 5_176;
+pub const STATE_SIZE: usize = 20_536;
 
 /// The bytes of its head, and of each row behind it.
 pub const HEAD_SIZE: usize = 56;
 pub const ROW_SIZE: usize = 20;
 
 /// How many rows there are.
-pub const PLACES: u32 = 256;
+pub const PLACES: u32 = 1_024;
 
 /// Where the parts of the head stand.
 pub const TERM_AT: usize = 0;

@@ -7,7 +7,7 @@ pub use image::{CANDIDATE, Command, FOLLOWER, Image, LEADER, STATE_SIZE, number_
 use independent::step::step;
 pub use independent::step::{PROPOSE, RECEIVE, RESTART, SEND, START};
 
-pub const OUT_SIZE: usize = 16_384;
+pub const OUT_SIZE: usize = 65_536;
 
 /// What the output holds before each call.
 const FILL: u8 = 0xa5;

@@ -9,7 +9,8 @@ use image::{
 };
 
 /// Numbers at and next to every edge that the rules name.
-pub const EDGES: [u32; 12] = [0, 1, 2, 3, 7, 8, 255, 256, 257, 65_536, u32::MAX - 1, u32::MAX];
+pub const EDGES: [u32; 14] =
+    [0, 1, 2, 3, 7, 8, 256, 257, PLACES - 1, PLACES, PLACES + 1, 65_536, u32::MAX - 1, u32::MAX];
 
 /// Where the numbers of a state's head stand: term, ballot, chosen, length, gathered, and the confirmed lengths.
 const NUMBERS: [usize; 12] = [0, 4, 8, 12, 16, 28, 32, 36, 40, 44, 48, 52];

@@ -281,10 +281,13 @@ impl Home {
 
     fn propose(&mut self) -> Result<(), Reason> {
         let Some(hub) = self.leader() else { return Ok(()) };
-        if self.length(hub) >= self.most && self.most < PLACES {
-            return Ok(());
-        }
-        for _ in 0..1 + self.rng.below(if self.most == PLACES { 12 } else { 4 }) {
+        // Many at once where the log may become full, or it never would.
+        let at_once = match self.length(hub) {
+            length if length >= self.most && self.most < PLACES => return Ok(()),
+            length if length < PLACES && self.most == PLACES => 48,
+            _ => 4,
+        };
+        for _ in 0..1 + self.rng.below(at_once) {
             self.proposals += 1;
             let mut command = command(self.proposals);
             if self.rng.below(60) == 0 {

@@ -3,13 +3,13 @@
 use crate::generator::rng::Rng;
 use image::ROW_SIZE;
 use independent::message::{self, Append, Body, Message};
-use independent::{Entry, Hub, Outcome, Place, Term};
+use independent::{Entry, Hub, LIMIT, Outcome, Place, Term};
 
 /// How many numbers a message has: type, term, from, to, up to three of its own, and the count of its entries.
 pub const FIELDS: usize = 8;
 
 /// The least size of an output, and the greatest of a text.
-pub const ROOM: usize = 16_384;
+pub const ROOM: usize = 65_536;
 
 const LARGEST: u32 = u32::MAX;
 
@@ -136,7 +136,7 @@ fn short(kind: u32, term: u32, own: u32) -> Sample {
     Sample { fields: [kind, term, 3, 2, own, 0, 0, 0], rows: Vec::new() }
 }
 
-/// Every legal shape: each type, each number at its smallest and largest, counts of 0, 1, 2, 255 and 256.
+/// Every legal shape: each type, each number at its smallest and largest, counts of 0, 1, 2, 256, and as many as fit and one less.
 pub fn shapes() -> Vec<Sample> {
     let mut all = Vec::new();
     for term in [1, 2, 10, 99, 1_000_000_000, LARGEST] {
@@ -144,20 +144,20 @@ pub fn shapes() -> Vec<Sample> {
         all.extend([
             short(3, term, 0),
             short(5, term, 0),
-            short(5, term, 256),
+            short(5, term, LIMIT),
             short(6, term, 0),
-            short(6, term, 256),
+            short(6, term, LIMIT),
         ]);
-        all.extend([yes(term, 0, 0, 0), yes(term, 256, term - 1, 0), append(term, 0, 0, 0, 0)]);
-        all.extend([append(term, 256, term, 256, 0), append(term, 1, 1, 0, 1)]);
+        all.extend([yes(term, 0, 0, 0), yes(term, LIMIT, term - 1, 0), append(term, 0, 0, 0, 0)]);
+        all.extend([append(term, LIMIT, term, LIMIT, 0), append(term, 1, 1, 0, 1)]);
         if term > 1 {
-            all.extend([request(term, 256, term - 1), request(term, 1, 1)]);
+            all.extend([request(term, LIMIT, term - 1), request(term, 1, 1)]);
         }
-        for count in [1, 2, 255, 256] {
+        for count in [1, 2, 256, LIMIT - 1, LIMIT] {
             all.push(append(term, 0, 0, 0, count));
-            all.push(append(term, 256 - count, if count == 256 { 0 } else { 1 }, 256, count));
+            all.push(append(term, LIMIT - count, if count == LIMIT { 0 } else { 1 }, LIMIT, count));
             if term > 1 {
-                all.extend([yes(term, 0, term - 1, count), yes(term, 256 - count, 1, count)]);
+                all.extend([yes(term, 0, term - 1, count), yes(term, LIMIT - count, 1, count)]);
             }
         }
     }
@@ -169,8 +169,8 @@ pub fn random(rng: &mut Rng) -> Sample {
     let span = rng_span(rng);
     let term = 2 + rng.below(span) as u32;
     let ballot = 1 + rng.below(u64::from(term - 1)) as u32;
-    let start = rng.below(257) as u32;
-    let count = rng.below(u64::from(257 - start).min(9)) as u32;
+    let start = rng.up_to(LIMIT);
+    let count = rng.up_to((LIMIT - start).min(8));
     let mut sample = match rng.below(6) {
         0 => request(term, start, ballot),
         1 => yes(term, start, ballot, count),

@@ -2,19 +2,19 @@
 //! with commands of random kinds, so that no branch is foretold from the call before.
 
 use crate::cpu::medians;
+use crate::steps::LENGTHS;
 use crate::table;
 use compare::binding::call::{Call, PROPOSE, Step, exported, independent};
 use compare::generator::messages::ROOM;
 use compare::generator::rng::{Rng, seed};
 use compare::generator::states::rising;
 use image::Image;
-use independent::{Hub, LIMIT, Outcome};
+use independent::{Hub, Outcome};
 
-const LENGTHS: [u32; 4] = [0, 16, 100, LIMIT];
 const TERM: u32 = 5;
 
 /// How many states take turns: many kinds, in few enough bytes to stay in the cache.
-const STATES: usize = 64;
+const STATES: usize = 16;
 
 fn followers(rng: &mut Rng, length: u32) -> Vec<Vec<u8>> {
     let mut follower = || {
@@ -43,6 +43,6 @@ pub fn print() {
         let states = followers(rng, length);
         let calls = 2_000_000 / (length + 40);
         let times = medians(calls, checks(exported, states.clone()), checks(independent, states));
-        table::times(&format!("{length} entries"), times);
+        table::times(&format!("{} entries", table::number(length.into())), times);
     }
 }

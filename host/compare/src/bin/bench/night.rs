@@ -7,14 +7,13 @@ use compare::generator::messages::ROOM;
 use image::{CHOSEN_AT, STATE_SIZE, number_at};
 use independent::{Hub, Outcome};
 
-const COMMANDS: u32 = 200;
-
 /// Hub 1 leads.
 const LEADER: u32 = 1;
 
 struct Night {
     step: Step,
     n: u32,
+    commands: u32,
     states: Vec<Vec<u8>>,
     steps: u32,
     /// The leader's text, the answer to it, and what the leader has to say to that: nothing.
@@ -24,10 +23,10 @@ struct Night {
 }
 
 impl Night {
-    fn new(step: Step, n: u32) -> Night {
+    fn new(step: Step, n: u32, commands: u32) -> Night {
         let states = vec![vec![0; STATE_SIZE]; n as usize];
         let [asked, answered, closed] = [(); 3].map(|()| vec![0; ROOM]);
-        Night { step, n, states, steps: 0, asked, answered, closed }
+        Night { step, n, commands, states, steps: 0, asked, answered, closed }
     }
 
     /// An event at the leader, its text to be found in `asked`.
@@ -69,14 +68,14 @@ impl Night {
 
     fn run(mut self) -> u32 {
         self.elect();
-        for place in 0..COMMANDS {
+        for place in 0..self.commands {
             self.lead([PROPOSE, 0, 0], &command(place));
             self.spread(place);
         }
         // Once more without entries: the last command is chosen.
-        self.spread(COMMANDS);
+        self.spread(self.commands);
         assert!(
-            self.states.iter().all(|state| number_at(state, CHOSEN_AT) == COMMANDS),
+            self.states.iter().all(|state| number_at(state, CHOSEN_AT) == self.commands),
             "all is chosen everywhere"
         );
         self.steps
@@ -91,10 +90,10 @@ fn command(place: u32) -> [u8; 16] {
 
 pub fn print() {
     table::head("A night", &["", "proved", "plain Rust", "ratio"]);
-    for n in [3, 5, 7] {
-        let steps = Night::new(exported, n).run();
-        let night = |step: Step| assert_eq!(Night::new(step, n).run(), steps);
+    for (commands, n) in [200, 800].into_iter().flat_map(|commands| [3, 5, 7].map(|n| (commands, n))) {
+        let steps = Night::new(exported, n, commands).run();
+        let night = |step: Step| assert_eq!(Night::new(step, n, commands).run(), steps);
         let times = medians(2, || night(exported), || night(independent));
-        table::times(&format!("{n} hubs, {} steps", table::number(steps.into())), times);
+        table::times(&format!("{commands} commands, {n} hubs, {} steps", table::number(steps.into())), times);
     }
 }

@@ -2,10 +2,10 @@
 
 use crate::cpu::medians;
 use crate::table;
-use crate::writing::append;
+use crate::writing::{COUNTS, append, append_of};
 use compare::binding::read_message;
 use compare::generator::messages::FIELDS;
-use independent::message;
+use independent::{LIMIT, message};
 use std::hint::black_box;
 
 fn read(what: &str, text: &[u8]) {
@@ -22,14 +22,14 @@ fn read(what: &str, text: &[u8]) {
 
 pub fn print() {
     table::head("Reading a message", &["", "proved", "plain Rust", "ratio"]);
-    for count in [1, 16, 256] {
+    for count in COUNTS {
         let mut text = append(count).text();
-        read(&format!("append of {count}"), &text);
+        read(&append_of(count), &text);
         let last = text.len() - 2;
         text[last] = b'G';
-        read(&format!("append of {count}, its end damaged"), &text);
+        read(&(append_of(count) + ", its end damaged"), &text);
     }
-    let mut text = append(256).text();
+    let mut text = append(LIMIT).text();
     text[12] = b'T';
     read("any, the line `term` damaged", &text);
 }

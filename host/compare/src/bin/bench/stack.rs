@@ -5,7 +5,7 @@ use crate::writing::append;
 use crate::{steps, table};
 use compare::binding::both::Call;
 use compare::generator::messages::{FIELDS, ROOM, message_of};
-use independent::{message, step};
+use independent::{LIMIT, message, step};
 use std::alloc::{Layout, alloc, dealloc};
 use std::ffi::c_void;
 use std::hint::black_box;
@@ -100,7 +100,7 @@ fn step_depths() -> [usize; 2] {
 }
 
 fn reading_depths() -> [usize; 2] {
-    let text = append(256).text();
+    let text = append(LIMIT).text();
     let ours = used(&mut || {
         black_box(compare::binding::read_message(&text, &mut [0; FIELDS]));
     });
@@ -111,7 +111,7 @@ fn reading_depths() -> [usize; 2] {
 }
 
 fn writing_depths() -> [usize; 2] {
-    let sample = append(256);
+    let sample = append(LIMIT);
     let message = message_of(&sample.fields).expect("a legal sample");
     let entries = sample.entries();
     let mut out = vec![0; ROOM];
@@ -127,8 +127,8 @@ fn writing_depths() -> [usize; 2] {
 pub fn print() {
     table::head("Stack", &["", "proved", "plain Rust"]);
     let rows = [
-        ("reading an append of 256", reading_depths()),
-        ("writing an append of 256", writing_depths()),
+        ("reading the longest append", reading_depths()),
+        ("writing the longest append", writing_depths()),
         ("a step", step_depths()),
     ];
     for (what, depths) in rows {

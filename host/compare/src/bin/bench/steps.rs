@@ -9,7 +9,8 @@ use image::{CANDIDATE, Image, LEADER, rows_of_bytes};
 use independent::{LIMIT, Outcome, step};
 use std::hint::black_box;
 
-const LENGTHS: [u32; 4] = [0, 16, 100, LIMIT];
+/// The logs of the tables, as long as a log may be at most.
+pub const LENGTHS: [u32; 5] = [0, 16, 100, 256, LIMIT];
 
 /// The hub's term where it follows or leads; as a candidate it asks at the next one.
 const TERM: u32 = 5;
@@ -159,12 +160,15 @@ fn cell(make: Maker, length: u32) -> String {
     format!("{} ns ({:.2})", table::number(ours), ours / theirs)
 }
 
+/// A row's name, and a cell for each length.
+fn wide<'a>(name: &'a str, cells: &'a [String]) -> Vec<&'a str> {
+    std::iter::once(name).chain(cells.iter().map(String::as_str)).collect()
+}
+
 pub fn print() {
-    let columns = ["", "log of 0", "log of 16", "log of 100", "log of 256"];
-    table::head("One step", &columns);
+    let columns = LENGTHS.map(|length| format!("log of {}", table::number(length.into())));
+    table::head("One step", &wide("", &columns));
     for (what, make) in KINDS {
-        let cells = LENGTHS.map(|length| cell(make, length));
-        let [a, b, c, d] = &cells;
-        table::row(&[what, a, b, c, d]);
+        table::row(&wide(what, &LENGTHS.map(|length| cell(make, length))));
     }
 }

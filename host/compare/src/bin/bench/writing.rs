@@ -4,8 +4,15 @@ use crate::cpu::medians;
 use crate::table;
 use compare::binding::write_message;
 use compare::generator::messages::{ROOM, Sample, message_of, rows};
-use independent::message;
+use independent::{LIMIT, message};
 use std::hint::black_box;
+
+/// The entries of the appends that are read and written.
+pub const COUNTS: [u32; 5] = [1, 16, 100, 256, LIMIT];
+
+pub fn append_of(count: u32) -> String {
+    format!("append of {}", table::number(count.into()))
+}
 
 /// A leader's append from the start of its log.
 pub fn append(count: u32) -> Sample {
@@ -28,7 +35,7 @@ fn write(what: &str, sample: &Sample) {
 
 pub fn print() {
     table::head("Writing a message", &["", "proved", "plain Rust", "ratio"]);
-    for count in [1, 16, 256] {
-        write(&format!("append of {count}"), &append(count));
+    for count in COUNTS {
+        write(&append_of(count), &append(count));
     }
 }
