@@ -8,7 +8,8 @@
  *
  * The library has no state of its own, allocates nothing, reads no clock, does no input or output,
  * and never stops half-way. The same arguments give the same answer and leave the same bytes. Of
- * the C library it needs `memset` and nothing else. A call takes less than 2,048 bytes of stack.
+ * the C library it needs `memset` and nothing else. A call takes less than 2,048 bytes of stack. A hub
+ * lends its state and an output, 86,072 bytes together, and the text that it has received.
  *
  * Nothing is asked of the numbers and bytes that are handed in: any of them get an answer. A refusal,
  * which is every outcome but KRITNAMON_DONE, leaves every lent byte and number as it was, with one

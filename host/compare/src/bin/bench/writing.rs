@@ -8,7 +8,7 @@ use independent::{LIMIT, message};
 use std::hint::black_box;
 
 /// The entries of the appends that are read and written.
-pub const COUNTS: [u32; 5] = [1, 16, 100, 256, LIMIT];
+pub const COUNTS: [u32; 6] = [0, 1, 16, 100, 256, LIMIT];
 
 pub fn append_of(count: u32) -> String {
     format!("append of {}", table::number(count.into()))
