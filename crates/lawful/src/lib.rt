@@ -7,11 +7,14 @@ ghost use Rattle.command.specs.Words.{part};
 ghost use Rattle.command.specs.Command.{legalCommand, command-size, commandOf};
 ghost use Rattle.command.specs.Answers.{ofNumbers, ofWords, numbersAt, isCommand};
 ghost use Rattle.command.specs.Proposal.{proposable, isProposal};
+ghost use Rattle.lawful.specs.Limits.{kindLimits};
 use command::Numbers;
 
 // The bits of gain 1.0, the greatest.
 const GAIN_MOST: u32 = 0x3f80_0000;
-// The longest duration, in ms.
+// The shortest and the longest duration of a buzz or ramp, in ms.
+const DURATION_LEAST: u32 = 1;
+
 const DURATION_MOST: u32 = 600_000;
 // The shortest buzz or ramp that can be felt, in ms.
 const FELT_LEAST: u32 = 20;
@@ -68,14 +71,6 @@ pub fn numbers_at(s: &[u8], at: usize) -> Numbers
     }
 }
 
-// Whether the 16 bytes from a place on are a legal command.
-pub fn is_legal_at(s: &[u8], at: usize) -> bool
-    requires { ⌜ at + command-size ≤ length (now s) ⌝ }
-    ensures { λ r. ⌜ r ≡ legalCommand (commandOf (part at command-size (now (s .entry)))) ⌝ }
-{
-    is_legal(numbers_at(s, at))
-}
-
 // Whether these bytes are a legal command: 16 of them, and legal.
 pub fn is_command(bytes: &[u8]) -> bool
     ensures { λ r. ⌜ r ≡ isCommand (now (bytes .entry)) ⌝ }
@@ -83,7 +78,7 @@ pub fn is_command(bytes: &[u8]) -> bool
     if bytes.len() != command::SIZE {
         return false;
     }
-    is_legal_at(bytes, 0)
+    is_legal(numbers_at(bytes, 0))
 }
 
 // Whether these bytes may be proposed: 16 of them, and such a command's.
@@ -94,4 +89,60 @@ pub fn is_proposal(bytes: &[u8]) -> bool
         return false;
     }
     may_propose(numbers_at(bytes, 0))
+}
+
+// ---- many of them
+
+// The limits of each kind: the least and the most duration, the most a, the most b.
+pub fn limits() -> [u32; 12]
+    ensures { λ r. ⌜ r ≡ kindLimits ⌝ }
+{
+    [
+        0,
+        0,
+        0,
+        0,
+        DURATION_LEAST,
+        DURATION_MOST,
+        GAIN_MOST,
+        0,
+        DURATION_LEAST,
+        DURATION_MOST,
+        GAIN_MOST,
+        GAIN_MOST,
+    ]
+}
+
+// Whether the command of these numbers is legal, with the limits lent.
+fn is_within(limits: &[u32; 12], n: Numbers) -> bool
+    requires { ⌜ now limits ≡ kindLimits ⌝ }
+    ensures { λ r. ⌜ r ≡ legalCommand (ofNumbers n) ⌝ }
+{
+    if 2 < n.kind {
+        return false;
+    }
+    let k = (n.kind as usize) * 4;
+    let duration = (limits[k] <= n.duration) & (n.duration <= limits[k + 1]);
+    let gains = (n.a <= limits[k + 2]) & (n.b <= limits[k + 3]);
+    ((1 <= n.motor) & (n.motor <= 64)) & (duration & gains)
+}
+
+// Whether the 16 bytes from a place on are a legal command, with the limits lent. The first bytes of a legal motor and kind are zero: so the second ones are
+// the numbers, and are not joined.
+pub fn is_legal_in(limits: &[u32; 12], s: &[u8], at: usize) -> bool
+    requires { ⌜ (now limits ≡ kindLimits) × (at + command-size ≤ length (now s)) ⌝ }
+    ensures { λ r. ⌜ r ≡ legalCommand (commandOf (part at command-size (now (s .entry)))) ⌝ }
+{
+    let small = (s[at] == 0) & (s[at + 2] == 0);
+    small
+        & is_within(
+            limits,
+            Numbers {
+                motor: words::wide(s[at + 1]),
+                kind: words::wide(s[at + 3]),
+                duration: words::get32(s, at + 4),
+                a: words::get32(s, at + 8),
+                b: words::get32(s, at + 12),
+            },
+        )
 }

@@ -81,12 +81,13 @@ pub fn are_legal(s: &[u8], from: usize, n: u32, rising: bool, low: u32, high: u3
     requires { ⌜ from + n * row-size ≤ length (now s) ⌝ }
     ensures { λ r. ⌜ r ≡ legalRows rising low high (rowsIn rowOf n (drop from (now (s .entry)))) ⌝ }
 {
+    let limits = lawful::limits();
     let mut least = low;
     let mut at = from;
     let mut left = n;
     while 0 < left {
         let t = words::get32(s, at);
-        if !((least <= t) & ((t <= high) & lawful::is_legal_at(s, at + 4))) {
+        if !((least <= t) & ((t <= high) & lawful::is_legal_in(&limits, s, at + 4))) {
             return false;
         }
         least = least_behind(rising, t, least);
