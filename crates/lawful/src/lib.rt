@@ -12,9 +12,9 @@ use command::Numbers;
 
 // The bits of gain 1.0, the greatest.
 const GAIN_MOST: u32 = 0x3f80_0000;
-// The shortest and the longest duration of a buzz or ramp, in ms.
+// The shortest duration of a buzz or ramp, in ms.
 const DURATION_LEAST: u32 = 1;
-
+// The longest duration, in ms.
 const DURATION_MOST: u32 = 600_000;
 // The shortest buzz or ramp that can be felt, in ms.
 const FELT_LEAST: u32 = 20;
