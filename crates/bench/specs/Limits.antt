@@ -5,17 +5,30 @@ use lib.ListN.{replicate}
 use Rattle.text.specs.Ascii.{ascii}
 use Rattle.state.specs.State.{State, fresh}
 use Rattle.rules.specs.Row.{CaseRow, AllHold}
-use Rattle.rules.specs.Samples.{buzz, buzzBytes, ms250, halfGain, buzzEntry, kept, followerWith, candidateWith, leaderWith, hub1Alone, confirmed, elected, does, refused}
-use Rattle.bench.specs.Outcomes.{roomFor}
+use Rattle.rules.specs.Samples.{buzzBytes, ms250, halfGain, buzzEntry, kept, followerWith, candidateWith, leaderWith, hub1Alone, confirmed, elected, leaderOf, does, refused}
+
+-- A row with another size of output.
+abbrev pub roomFor : ℕ → CaseRow → CaseRow
+roomFor n r =
+    record {
+      case = r .case;
+      who = r .who;
+      event = r .event;
+      a = r .a;
+      b = r .b;
+      state = r .state;
+      input = r .input;
+      room = n;
+      outcome = r .outcome;
+      next = r .next;
+      message = r .message;
+    }
 
 -- ---- hubs
 
--- A follower of term 2 with n entries of term 1, at this ballot; and a leader of term 1 with n.
+-- A follower of term 2 with n entries of term 1, at this ballot.
 abbrev pub holdsAt : ℕ → ℕ → State
 holdsAt ballot n = followerWith (kept 2 ballot 0 (replicate n (buzzEntry 1)))
-
-abbrev pub leadsWith : ℕ → State
-leadsWith n = leaderWith (kept 1 1 0 (replicate n (buzzEntry 1))) (confirmed n 0)
 
 -- Hub 1 stands for term 2 with n entries; and leads with them and one more, which it gathered.
 abbrev pub asksWith : ℕ → State
@@ -33,7 +46,7 @@ line = ascii "entry=1:00030001000000fa3f00000000000000\n"
 unfoldable pub limits : List CaseRow
 limits =
     -- 256 entries are no end
-    does 0 1 2 (leadsWith 256) (buzzBytes ms250 halfGain) (leadsWith 257) []
+    does 0 1 2 (leaderOf 256) (buzzBytes ms250 halfGain) (leaderOf 257) []
     -- prev and count: to the last place, and one beyond
     ∷ does 0 2 5 (holdsAt 1 1_023)
     (ascii "type=append\nterm=2\nfrom=1\nto=2\nprev=1023\nprevterm=1\nchosen=0\ncount=1\n" ++ line)

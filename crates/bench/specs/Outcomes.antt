@@ -37,23 +37,6 @@ use Rattle.rules.specs.Samples.{
   refused,
 }
 
--- A row with another size of output.
-abbrev pub roomFor : ℕ → CaseRow → CaseRow
-roomFor n r =
-    record {
-      case = r .case;
-      who = r .who;
-      event = r .event;
-      a = r .a;
-      b = r .b;
-      state = r .state;
-      input = r .input;
-      room = n;
-      outcome = r .outcome;
-      next = r .next;
-      message = r .message;
-    }
-
 -- Hub 1 stands for term 5 with one entry at ballot 1; hub 2 follows at term 5; hub 1 leads term 5 with two entries.
 abbrev pub aCandidate : State
 aCandidate = candidateWith (kept 5 1 0 (buzzEntry 1 ∷ [])) hub1Alone []
@@ -114,9 +97,7 @@ examples =
     ∷ stepRow 1 0 3 1 0 0 fresh [] 1 fresh []
     ∷ stepRow 1 1 3 6 0 0 fresh [] 1 fresh []
     ∷ stepRow 1 1 3 0 0 0 fresh [] 1 fresh []
-    -- 2 stands below
-    -- 3
-    ∷ roomFor 65_535 (refused 3 1 4 fresh [] 3)
+    -- 2 stands below, 3 in Limits
     -- 4: a leading zero; a line too many; no text at all; a prevterm without a prev; an illegal command
     ∷ refused 4 1 5 fresh (ascii "type=vote-no\nterm=01\nfrom=2\nto=1\n") 4
     ∷ refused 4 1 5 fresh (ascii "type=vote-no\nterm=1\nfrom=2\nto=1\n\n") 4

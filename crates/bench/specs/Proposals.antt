@@ -15,7 +15,7 @@ use Rattle.command.specs.Answers.{isCommand, commandWritten}
 use Rattle.command.specs.Proposal.{proposable}
 use Rattle.state.specs.State.{State}
 use Rattle.rules.specs.Row.{CaseRow, AllHold}
-use Rattle.rules.specs.Samples.{buzzing, buzzEntry, kept, followerWith, candidateWith, leaderWith, hub1Alone, confirmed, elected, withOne, does, refused}
+use Rattle.rules.specs.Samples.{buzzing, buzzEntry, kept, followerWith, candidateWith, leaderWith, hub1Alone, confirmed, elected, withOne, leaderOf, does, refused}
 
 -- ---- commands
 
@@ -44,7 +44,7 @@ refuses10 c = refused 10 1 2 elected (commandBytes c) 10
 
 -- A leader whose log is full.
 abbrev pub fullLeader : State
-fullLeader = leaderWith (kept 1 1 0 (replicate limit (buzzEntry 1))) (confirmed limit 0)
+fullLeader = leaderOf limit
 
 -- ---- held
 

@@ -2,7 +2,6 @@
 use Prim.Native.Nat.{ℕ}
 use mathlib.Core.List.{List, [], _∷_}
 use lib.IntN.{pos}
-use lib.ListN.{replicate}
 use Rattle.text.specs.Ascii.{ascii}
 use Rattle.state.specs.State.{State, fresh}
 use Rattle.rules.specs.Row.{CaseRow, AllHold}
@@ -21,6 +20,7 @@ use Rattle.rules.specs.Samples.{
   confirmed,
   elected,
   withOne,
+  leaderOf,
   wholeAppend,
   yes-text,
   end-text,
@@ -38,10 +38,6 @@ firstCandidate = candidateWith (kept 1 0 0 []) hub1Alone []
 
 abbrev pub holding : State
 holding = followerWith (kept 1 1 0 (buzzEntry 1 ∷ []))
-
--- A leader with n entries.
-abbrev pub long : ℕ → State
-long n = leaderWith (kept 1 1 0 (replicate n (buzzEntry 1))) (confirmed n 0)
 
 -- Case 12's follower, at the term before or after the append, with this ballot.
 abbrev pub twoHeld : ℕ → ℕ → State
@@ -62,8 +58,8 @@ caseTable =
     ∷ does 8 1 1 (followerWith (kept 4_294_967_294 0 0 [])) [] (candidateWith (kept 4_294_967_295 0 0 []) hub1Alone [])
     (ascii "type=vote-request\nterm=4294967295\nfrom=1\nto=0\nlast=0\nballot=0\n")
     ∷ refused 8 1 1 (followerWith (kept 4_294_967_295 0 0 [])) [] 9
-    ∷ does 9 1 2 (long 1_023) (buzzBytes ms250 halfGain) (long 1_024) []
-    ∷ refused 9 1 2 (long 1_024) (buzzBytes ms250 halfGain) 11
+    ∷ does 9 1 2 (leaderOf 1_023) (buzzBytes ms250 halfGain) (leaderOf 1_024) []
+    ∷ refused 9 1 2 (leaderOf 1_024) (buzzBytes ms250 halfGain) 11
     ∷ does 10 1 2 elected (buzzBytes (0 ∷ 0x09 ∷ 0x27 ∷ 0xc0 ∷ []) halfGain) (withOne (buzzing (pos 600_000) 0x3f00_0000)) []
     ∷ refused 10 1 2 elected (buzzBytes (0 ∷ 0x09 ∷ 0x27 ∷ 0xc1 ∷ []) halfGain) 10
     ∷ refused 10 1 2 elected (buzzBytes (0xff ∷ 0xff ∷ 0xff ∷ 0xff ∷ []) halfGain) 10

@@ -62,6 +62,10 @@ elected = leaderWith (kept 1 1 0 []) (confirmed 0 0)
 abbrev pub withOne : Command → State
 withOne c = leaderWith (kept 1 1 0 (record { term = 1; command = c } ∷ [])) (confirmed 1 0)
 
+-- Hub 1 leads term 1 with n entries, of which nobody else has confirmed any.
+abbrev pub leaderOf : ℕ → State
+leaderOf n = leaderWith (kept 1 1 0 (replicate n (buzzEntry 1))) (confirmed n 0)
+
 -- ---- texts
 
 -- The whole append of rule R28.
