@@ -88,10 +88,13 @@ fn halves(answer: u64) -> (Outcome, u32) {
 
 /// Reads a message alone, into lent numbers: type, term, from, to, and its own. Answers the outcome and where the entry lines begin.
 pub fn read_message(text: &[u8], fields: &mut [u32]) -> (Outcome, u32) {
+    halves(read_packed(text, fields))
+}
+
+/// The same, with the answer's two halves in one number, as the library gives it.
+pub fn read_packed(text: &[u8], fields: &mut [u32]) -> u64 {
     // SAFETY: each pointer and length are those of one slice, the second lent to this call alone.
-    halves(unsafe {
-        library::kritnamon_read_message(text.as_ptr(), text.len(), fields.as_mut_ptr(), fields.len())
-    })
+    unsafe { library::kritnamon_read_message(text.as_ptr(), text.len(), fields.as_mut_ptr(), fields.len()) }
 }
 
 /// Writes a message alone, from its numbers and the rows of its entries. Answers the outcome and how many bytes were written.

@@ -22,6 +22,16 @@ pub fn now() -> u64 {
     time.seconds as u64 * 1_000_000_000 + time.nanoseconds as u64
 }
 
+/// So many calls of a piece of work that a round of them takes a quarter of a millisecond or more, against which the clock's own time does not count.
+pub fn calls_of(mut work: impl FnMut()) -> u32 {
+    const ROUND: f64 = 250_000.0;
+    let mut calls = 1;
+    while each(calls, &mut work) * f64::from(calls) < ROUND {
+        calls *= 2;
+    }
+    calls
+}
+
 /// The median time of one call, in nanoseconds, of each of two pieces of work: eleven rounds of each, turn by turn.
 pub fn medians(calls: u32, mut ours: impl FnMut(), mut theirs: impl FnMut()) -> (f64, f64) {
     medians_of(|| each(calls, &mut ours), || each(calls, &mut theirs))

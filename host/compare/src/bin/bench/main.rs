@@ -10,12 +10,23 @@ mod steps;
 mod table;
 mod writing;
 
+/// The tables, by the names with which they can be asked for.
+const TABLES: [(&str, fn()); 7] = [
+    ("reading", reading::print),
+    ("writing", writing::print),
+    ("checking", checking::print),
+    ("steps", steps::print),
+    ("night", night::print),
+    ("archive", archive::print),
+    ("stack", stack::print),
+];
+
+/// Prints the tables that are named, or all.
 fn main() {
-    reading::print();
-    writing::print();
-    checking::print();
-    steps::print();
-    night::print();
-    archive::print();
-    stack::print();
+    let asked: Vec<String> = std::env::args().skip(1).collect();
+    for (name, print) in TABLES {
+        if asked.is_empty() || asked.iter().any(|word| word == name) {
+            print();
+        }
+    }
 }

@@ -1,35 +1,98 @@
-//! Reading messages.
+//! Reading messages, long and short, good and damaged. Sixteen texts of a shape take turns, with random commands: one text read again and
+//! again flatters branches, which then are all foretold.
 
-use crate::cpu::medians;
+use crate::cpu::{calls_of, medians};
 use crate::table;
-use crate::writing::{COUNTS, append, append_of};
-use compare::binding::read_message;
-use compare::generator::messages::FIELDS;
+use compare::binding::read_packed;
+use compare::generator::messages::{FIELDS, ROOM, Sample};
+use compare::generator::rng::{Rng, seed};
+use compare::generator::states::rising;
+use image::bytes_of_rows;
 use independent::{LIMIT, message};
 use std::hint::black_box;
 
-fn read(what: &str, text: &[u8]) {
-    let calls = 4_000_000 / (text.len() as u32 + 400);
-    let ours = || {
-        let mut fields = [0; FIELDS];
-        black_box(read_message(black_box(text), &mut fields));
+/// How many texts take turns: many commands, in few enough bytes to stay in the cache.
+const TEXTS: usize = 16;
+
+const TERM: u32 = 5;
+
+/// A leader's append from the start of its log, with commands of random kinds.
+fn append(rng: &mut Rng, count: u32) -> Sample {
+    let rows = bytes_of_rows(&rising(rng, count, 1, TERM));
+    Sample { fields: [4, TERM, 1, 2, 0, 0, 0, count], rows }
+}
+
+/// A message of a type that has one number of its own, or none.
+fn short(kind: u32, own: u32) -> Sample {
+    Sample { fields: [kind, TERM, 2, 1, own, 0, 0, 0], rows: Vec::new() }
+}
+
+type Maker = fn(&mut Rng) -> Sample;
+
+/// The messages that are read.
+const SHAPES: [(&str, Maker); 7] = [
+    ("vote-no", |_| short(3, 0)),
+    ("append-yes", |rng| short(5, rng.up_to(LIMIT))),
+    ("append of 0", |rng| append(rng, 0)),
+    ("append of 1", |rng| append(rng, 1)),
+    ("append of 16", |rng| append(rng, 16)),
+    ("append of 256", |rng| append(rng, 256)),
+    ("append of 1,024", |rng| append(rng, LIMIT)),
+];
+
+/// What no text has at any place.
+const WRONG: u8 = b'G';
+
+type Harm = fn(&mut Rng, &mut Vec<u8>);
+
+/// What happens to a text before it is read.
+const HARMS: [(&str, Harm); 6] = [
+    ("good", |_, _| {}),
+    ("damaged in its first line", |rng, text| {
+        let line = text.iter().position(|&byte| byte == b'\n').expect("a line");
+        text[rng.below(line as u64 + 1) as usize] = WRONG;
+    }),
+    ("in the middle", |_, text| {
+        let middle = text.len() / 2;
+        text[middle] = WRONG;
+    }),
+    ("at its last byte", |_, text| *text.last_mut().expect("a byte") = WRONG),
+    ("cut", |rng, text| text.truncate(rng.below(text.len() as u64) as usize)),
+    ("one byte too long", |_, text| text.resize(ROOM + 1, b'\n')),
+];
+
+/// Reads the next of the texts at each call.
+fn reads(texts: &[Vec<u8>], mut read: impl FnMut(&[u8])) -> impl FnMut() {
+    let mut turns = texts.iter().cycle();
+    move || read(black_box(turns.next().expect("a turn")))
+}
+
+fn measure(texts: &[Vec<u8>]) -> (f64, f64) {
+    let ours = |text: &[u8]| {
+        black_box(read_packed(text, &mut [0; FIELDS]));
     };
-    let theirs = || {
-        black_box(message::read(black_box(text)).message.is_ok());
+    let theirs = |text: &[u8]| {
+        black_box(message::read(text).message.is_ok());
     };
-    table::times(what, medians(calls, ours, theirs));
+    let calls = calls_of(reads(texts, ours)).max(TEXTS as u32);
+    medians(calls, reads(texts, ours), reads(texts, theirs))
+}
+
+fn texts(rng: &mut Rng, make: Maker, harm: Harm) -> Vec<Vec<u8>> {
+    let mut one = || {
+        let mut text = make(rng).text();
+        harm(rng, &mut text);
+        text
+    };
+    (0..TEXTS).map(|_| one()).collect()
 }
 
 pub fn print() {
-    table::head("Reading a message", &["", "proved", "plain Rust", "ratio"]);
-    for count in COUNTS {
-        let mut text = append(count).text();
-        read(&append_of(count), &text);
-        let last = text.len() - 2;
-        text[last] = b'G';
-        read(&(append_of(count) + ", its end damaged"), &text);
+    let columns = HARMS.map(|(harm, _)| harm.to_string());
+    table::head("Reading a message", &table::wide("", &columns));
+    let rng = &mut Rng::quiet(seed());
+    for (what, make) in SHAPES {
+        let cells = HARMS.map(|(_, harm)| table::cell(measure(&texts(rng, make, harm))));
+        table::row(&table::wide(what, &cells));
     }
-    let mut text = append(LIMIT).text();
-    text[12] = b'T';
-    read("any, the line `term` damaged", &text);
 }

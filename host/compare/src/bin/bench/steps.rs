@@ -155,20 +155,13 @@ fn measure(made: &Step) -> (f64, f64) {
 }
 
 fn cell(make: Maker, length: u32) -> String {
-    let Some(made) = make(length) else { return String::new() };
-    let (ours, theirs) = measure(&made);
-    format!("{} ns ({:.2})", table::number(ours), ours / theirs)
-}
-
-/// A row's name, and a cell for each length.
-fn wide<'a>(name: &'a str, cells: &'a [String]) -> Vec<&'a str> {
-    std::iter::once(name).chain(cells.iter().map(String::as_str)).collect()
+    make(length).map(|made| table::cell(measure(&made))).unwrap_or_default()
 }
 
 pub fn print() {
     let columns = LENGTHS.map(|length| format!("log of {}", table::number(length.into())));
-    table::head("One step", &wide("", &columns));
+    table::head("One step", &table::wide("", &columns));
     for (what, make) in KINDS {
-        table::row(&wide(what, &LENGTHS.map(|length| cell(make, length))));
+        table::row(&table::wide(what, &LENGTHS.map(|length| cell(make, length))));
     }
 }

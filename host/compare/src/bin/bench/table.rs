@@ -32,3 +32,13 @@ pub fn times(what: &str, (ours, theirs): (f64, f64)) {
     let [ours_shown, theirs_shown] = [ours, theirs].map(|time| number(time) + " ns");
     row(&[what, &ours_shown, &theirs_shown, &format!("{:.2}", ours / theirs)]);
 }
+
+/// Two times of one call, in nanoseconds, as one cell: the first, and its ratio to the second.
+pub fn cell((ours, theirs): (f64, f64)) -> String {
+    format!("{} ns ({:.2})", number(ours), ours / theirs)
+}
+
+/// A row's name, and its cells.
+pub fn wide<'a>(name: &'a str, cells: &'a [String]) -> Vec<&'a str> {
+    std::iter::once(name).chain(cells.iter().map(String::as_str)).collect()
+}
