@@ -1,17 +1,18 @@
 -- What is found at a place of a text, from the bytes that stand there: one law for each answer of the code, whose premises are what the
 -- code's tests tell. And that a find has one answer. Assumes nothing.
-use Prim.Native.Nat.{ℕ, _+_, _-_, _*_, _≤_, _<_}
+use Prim.Native.Nat.{ℕ, zero, suc, _+_, _-_, _*_, _≤_, _<_}
 use mathlib.Core.List.{List, [], _∷_}
 use mathlib.Core.Path.{_≡_, refl, ap, sym, _∙_}
 use native.Mathlib.Omega.{arith}
 use native.Mathlib.Numerals.{add-one}
-use mathlib.Core.Bool.{Bool, true, false}
-use lib.Dec.{eqb}
-use borrow.Author.Tests.{eqb-true, eqb-false}
+use native.Mathlib.Nat.{add-zero}
+use mathlib.Core.Bool.{Bool, true, false, _||_}
+use lib.Dec.{eqb, ltb}
+use borrow.Author.Tests.{eqb-true, eqb-false, ltb-true, ltb-false}
 use lib.ListN.{length, getD, drop, length-drop, drop-of-length-le}
 use lib.Seq.{drop-cons}
 use Rattle.text.specs.Decimal.{isDigit, moreDigits, number}
-use Rattle.text.specs.Found.{Found, FoundNext, FoundNumber}
+use Rattle.text.specs.Found.{Found, FoundNext, FoundNumber, IsFour}
 use Rattle.text.specs.Range.{within, numberIn, lineIn}
 use Rattle.text.specs.Reader.{Got, got, lost, onward, literal}
 use Rattle.text.specs.declared.Next.{Next}
@@ -19,6 +20,7 @@ use Rattle.text.specs.declared.Next.the-variants.{At, Bad as Next·Bad}
 use Rattle.text.specs.declared.Number.{Number}
 use Rattle.text.specs.declared.Number.the-variants.{Is, Bad as Number·Bad}
 use Rattle.kinds.proofs.BetweenLaws.{between-below, between-above}
+use Rattle.kinds.proofs.BoolLaws.{or-either, or-first, or-second}
 use Rattle.text.proofs.CaseLaws.{next-at, next-bad, number-is, number-bad}
 use Rattle.text.proofs.DecimalLaws.{digit-is, more-end, more-digit, more-other, number-end, number-zero, number-first, number-other}
 use Rattle.text.proofs.RangeLaws.{within-in, within-sound, more-above, numberIn-lost, numberIn-below, numberIn-other, numberIn-ended}
@@ -57,54 +59,122 @@ module _ (key s : List ℕ) (at : ℕ) where
   pub literal-few : at ≤ length s → length s - at < length key → literal key (drop at s) ≡ lost
   literal-few h g = literal-short key (drop at s) (rw (length-drop at s) g)
 
-  module _ (i j : ℕ) (so-far : literal key (drop at s) ≡ literal (drop j key) (drop i s)) where
-    -- All of it stood.
-    pub literal-done : length key ≤ j → i + (length key - j) ≤ length s → Found s (literal key (drop at s)) tt i
-    unfolding literal
-    literal-done h g = record { inside = omega arith; read = so-far ∙ rw (drop-past key j h) }
+-- What is found is what is found of the literal from j on in the text from i on.
+module _ (key s : List ℕ) (g : Got (Unit {0})) (i j : ℕ) (so-far : g ≡ literal (drop j key) (drop i s)) where
+  -- All of it stood.
+  pub literal-done : length key ≤ j → i + (length key - j) ≤ length s → Found s g tt i
+  unfolding literal
+  literal-done h f = record { inside = omega arith; read = so-far ∙ rw (drop-past key j h) }
 
-    module _ (p : j < length key) (room : i + (length key - j) ≤ length s) where
-      next : drop i s ≡ getD s i 0 ∷ drop (i + 1) s
-      next = drop-next s i (omega arith)
+  module _ (p : j < length key) (room : i + (length key - j) ≤ length s) where
+    next : drop i s ≡ getD s i 0 ∷ drop (i + 1) s
+    next = drop-next s i (omega arith)
 
-      -- Another byte stands there.
-      pub literal-wrong : (getD s i 0 ≡ getD key j 0 → ⊥) → literal key (drop at s) ≡ lost
-      literal-wrong n = so-far ∙ rw (drop-next key j p, next) (literal-other _ _ _ _ n)
+    -- Another byte stands there.
+    pub literal-wrong : (getD s i 0 ≡ getD key j 0 → ⊥) → g ≡ lost
+    literal-wrong n = so-far ∙ rw (drop-next key j p, next) (literal-other _ _ _ _ n)
 
-      -- The right one stands there.
-      pub literal-again : getD s i 0 ≡ getD key j 0 → literal key (drop at s) ≡ literal (drop (j + 1) key) (drop (i + 1) s)
-      literal-again e = so-far ∙ rw (drop-next key j p, next) (literal-same _ _ _ _ e)
+    -- The right one stands there.
+    pub literal-again : getD s i 0 ≡ getD key j 0 → g ≡ literal (drop (j + 1) key) (drop (i + 1) s)
+    literal-again e = so-far ∙ rw (drop-next key j p, next) (literal-same _ _ _ _ e)
+
+-- ---- four bytes of a literal at once
+
+module _ (key s : List ℕ) (g : Got (Unit {0})) (i j : ℕ) (so-far : g ≡ literal (drop j key) (drop i s)) where
+  module _ (p : 4 ≤ length key - j) (room : i + (length key - j) ≤ length s) where
+    -- The first n bytes there are the same.
+    abbrev Same : ℕ → Type 0
+    Same n = (k : ℕ) → k < n → getD s (i + k) 0 ≡ getD key (j + k) 0
+
+    past : (n : ℕ) → n ≤ 4 → Same n → g ≡ literal (drop (j + n) key) (drop (i + n) s)
+    past zero h e = simp add-zero so-far
+    past (suc n) h e =
+        let less = past n (omega arith) (λ k l. e k (omega arith)) in
+        let more : g ≡ literal (drop (j + n + 1) key) (drop (i + n + 1) s) =
+        literal-again key s g (i + n) (j + n) less (omega arith) (omega arith) (e n (omega arith)) in
+        let a : j + n + 1 ≡ j + suc n = omega arith in
+        let b : i + n + 1 ≡ i + suc n = omega arith in
+        rw (a, b) at more
+
+    -- And the next one too.
+    one-more : (n : ℕ) → Same n → getD s (i + n) 0 ≡ getD key (j + n) 0 → Same (n + 1)
+    one-more n same f k l = go (eqb k n) refl
+      where
+        go : (t : Bool) → eqb k n ≡ t → getD s (i + k) 0 ≡ getD key (j + k) 0
+        go true q = rw (eqb-true k n q) f
+        go false q = same k (omega (arith, eqb-false k n q))
+
+    -- The next one is another, or what follows decides.
+    one-other : (n : ℕ) → n < 4 → Same n → (getD s (i + n) 0 ≡ getD key (j + n) 0 → g ≡ lost) → g ≡ lost
+    one-other n h same then = go (eqb (getD s (i + n) 0) (getD key (j + n) 0)) refl
+      where
+        go : (t : Bool) → eqb (getD s (i + n) 0) (getD key (j + n) 0) ≡ t → g ≡ lost
+        go true q = then (eqb-true _ _ q)
+        go false q = literal-wrong key s g (i + n) (j + n) (past n (omega arith) same) (omega arith) (omega arith) (eqb-false _ _ q)
+
+    module _ (x y : ℕ) (fx : IsFour s i x) (fy : IsFour key j y) where
+      -- The same number: the same bytes.
+      pub four-same : x ≡ y → g ≡ literal (drop (j + 4) key) (drop (i + 4) s)
+      four-same e = past 4 (omega arith) same
+        where
+          same : Same 4
+          same zero l = simp add-zero (omega (arith, fx .number, fx .bytes, fy .number, fy .bytes))
+          same (suc zero) l = omega (arith, fx .number, fx .bytes, fy .number, fy .bytes)
+          same (suc (suc zero)) l = omega (arith, fx .number, fx .bytes, fy .number, fy .bytes)
+          same (suc (suc (suc zero))) l = omega (arith, fx .number, fx .bytes, fy .number, fy .bytes)
+          same (suc (suc (suc (suc k)))) l = absurd (omega arith)
+
+      -- Another number: another byte.
+      pub four-other : (x ≡ y → ⊥) → g ≡ lost
+      four-other d = look 4 0 (omega arith) (λ k l. absurd (omega arith))
+        where
+          look : (left n : ℕ) → n + left ≡ 4 → Same n → g ≡ lost
+          look zero n e same =
+              let first : getD s i 0 ≡ getD key j 0 = simp add-zero at (same 0 (omega arith)) in
+              absurd (d (omega (arith, fx .number, fy .number, first, same 1 (omega arith), same 2 (omega arith), same 3 (omega arith))))
+          look (suc left) n e same = one-other n (omega arith) same (λ f. look left (n + 1) (omega arith) (one-more n same f))
+
+-- What is found of the rest is what is found of all.
+pub literal-rest : (s : List ℕ) (g h : Got (Unit {0})) (r : Next) → g ≡ h → FoundNext s h r → FoundNext s g r
+literal-rest s g h r e f = rw e f
 
 -- ---- digits
 
-module _ (s : List ℕ) (at hi v i : ℕ) (so-far : moreDigits 0 (drop at s) ≡ moreDigits v (drop i s)) where
-  ends : v ≤ hi → i ≤ length s → moreDigits v (drop i s) ≡ got v (drop i s) → Found s (onward (moreDigits 0 (drop at s)) (within 0 hi)) v i
+-- Whether a byte is a digit, as the code asks it.
+outside : (b : ℕ) → ltb b 48 || ltb 57 b ≡ true → isDigit b ≡ false
+outside b t = or-either _ _ t (λ l. between-below 48 57 b (ltb-true b 48 l)) (λ l. between-above 48 57 b (ltb-true 57 b l))
+
+-- The code takes 48 from a digit.
+pub digit-least : (b : ℕ) → ltb b 48 || ltb 57 b ≡ false → 48 ≤ b
+digit-least b t = ltb-false b 48 (or-first _ _ t)
+
+inside : (b : ℕ) → ltb b 48 || ltb 57 b ≡ false → isDigit b ≡ true
+inside b t = digit-is b (digit-least b t) (ltb-false 57 b (or-second (ltb b 48) _ t))
+
+module _ (s : List ℕ) (at u hi v i : ℕ) (so-far : moreDigits u (drop at s) ≡ moreDigits v (drop i s)) where
+  ends : v ≤ hi → i ≤ length s → moreDigits v (drop i s) ≡ got v (drop i s) → Found s (onward (moreDigits u (drop at s)) (within 0 hi)) v i
   ends h g e =
       record { inside = g; read = onward-got (within 0 hi) (so-far ∙ e) ∙ within-in 0 hi v (drop i s) (omega arith) h }
 
   -- The text ends.
-  pub digits-end : v ≤ hi → i ≤ length s → length s ≤ i → Found s (onward (moreDigits 0 (drop at s)) (within 0 hi)) v i
+  pub digits-end : v ≤ hi → i ≤ length s → length s ≤ i → Found s (onward (moreDigits u (drop at s)) (within 0 hi)) v i
   digits-end h g p = ends h g (rw (drop-past s i p) (more-end v))
 
   module _ (h : v ≤ hi) (p : i < length s) where
-    stops : isDigit (getD s i 0) ≡ false → Found s (onward (moreDigits 0 (drop at s)) (within 0 hi)) v i
+    stops : isDigit (getD s i 0) ≡ false → Found s (onward (moreDigits u (drop at s)) (within 0 hi)) v i
     stops e = ends h (omega arith) (rw (drop-next s i p) (more-other _ _ v e))
 
-    -- A byte below the digits.
-    pub digits-below : getD s i 0 < 48 → Found s (onward (moreDigits 0 (drop at s)) (within 0 hi)) v i
-    digits-below l = stops (between-below 48 57 (getD s i 0) l)
+    -- A byte that is no digit.
+    pub digits-stop : ltb (getD s i 0) 48 || ltb 57 (getD s i 0) ≡ true → Found s (onward (moreDigits u (drop at s)) (within 0 hi)) v i
+    digits-stop t = stops (outside (getD s i 0) t)
 
-    -- A byte above the digits.
-    pub digits-above : 57 < getD s i 0 → Found s (onward (moreDigits 0 (drop at s)) (within 0 hi)) v i
-    digits-above l = stops (between-above 48 57 (getD s i 0) l)
-
-  module _ (p : i < length s) (l : 48 ≤ getD s i 0) (m : getD s i 0 ≤ 57) (w : ℕ) (e : w ≡ getD s i 0 - 48) where
+  module _ (p : i < length s) (t : ltb (getD s i 0) 48 || ltb 57 (getD s i 0) ≡ false) (w : ℕ) (e : w ≡ getD s i 0 - 48) where
     -- One more digit.
-    pub digits-again : moreDigits 0 (drop at s) ≡ moreDigits (v * 10 + w) (drop (i + 1) s)
-    digits-again = so-far ∙ rw (e, drop-next s i p) (more-digit _ _ v (digit-is (getD s i 0) l m))
+    pub digits-again : moreDigits u (drop at s) ≡ moreDigits (v * 10 + w) (drop (i + 1) s)
+    digits-again = so-far ∙ rw (e, drop-next s i p) (more-digit _ _ v (inside (getD s i 0) t))
 
     -- With it the number is too large.
-    pub digits-over : hi < v * 10 + w → onward (moreDigits 0 (drop at s)) (within 0 hi) ≡ lost
+    pub digits-over : hi < v * 10 + w → onward (moreDigits u (drop at s)) (within 0 hi) ≡ lost
     digits-over o = rw digits-again (more-above hi (v * 10 + w) (drop (i + 1) s) o)
 
 -- ---- a number
@@ -123,26 +193,24 @@ module _ (s : List ℕ) (at hi : ℕ) where
           read = onward-got (within 0 hi) (rw (drop-next s at p) (number-zero _ _ e)) ∙ within-in 0 hi 0 (drop (at + 1) s) (omega arith) (omega arith);
         }
 
-    -- A byte below the digits.
-    pub number-below : getD s at 0 < 48 → onward (number (drop at s)) (within 0 hi) ≡ lost
-    number-below l = onward-lost (within 0 hi) (rw (drop-next s at p) (number-other _ _ (between-below 48 57 (getD s at 0) l)))
+    -- A byte that is no digit.
+    pub number-stop : ltb (getD s at 0) 48 || ltb 57 (getD s at 0) ≡ true → onward (number (drop at s)) (within 0 hi) ≡ lost
+    number-stop t = onward-lost (within 0 hi) (rw (drop-next s at p) (number-other _ _ (outside (getD s at 0) t)))
 
-    -- A byte above the digits.
-    pub number-above : 57 < getD s at 0 → onward (number (drop at s)) (within 0 hi) ≡ lost
-    number-above l = onward-lost (within 0 hi) (rw (drop-next s at p) (number-other _ _ (between-above 48 57 (getD s at 0) l)))
+    module _ (t : ltb (getD s at 0) 48 || ltb 57 (getD s at 0) ≡ false) (n : getD s at 0 ≡ 48 → ⊥) (u : ℕ) (e : u ≡ getD s at 0 - 48) where
+      first : number (drop at s) ≡ moreDigits u (drop (at + 1) s)
+      first = rw (e, drop-next s at p) (number-first _ _ (inside (getD s at 0) t) n)
 
-    -- Another digit: the number is that of the digits.
-    pub number-digits
-        : (getD s at 0 ≡ 48 → ⊥)
-        → 48 ≤ getD s at 0
-        → getD s at 0 ≤ 57
-        → (r : Number)
-        → FoundNumber s (onward (moreDigits 0 (drop at s)) (within 0 hi)) r
-        → FoundNumber s (onward (number (drop at s)) (within 0 hi)) r
-    number-digits n l m r f =
-        let d = digit-is (getD s at 0) l m in
-        let e : number (drop at s) ≡ moreDigits 0 (drop at s) = rw (drop-next s at p) (number-first _ _ d n ∙ sym (more-digit _ _ 0 d ∙ ap (λ (v : ℕ). moreDigits v (drop (at + 1) s)) (omega arith))) in
-        rw e f
+      -- Another digit, too large by itself.
+      pub number-over : hi < u → onward (number (drop at s)) (within 0 hi) ≡ lost
+      number-over o = rw first (more-above hi u (drop (at + 1) s) o)
+
+      -- Another digit: the number is made by those behind it.
+      pub number-digits
+          : (r : Number)
+          → FoundNumber s (onward (moreDigits u (drop (at + 1) s)) (within 0 hi)) r
+          → FoundNumber s (onward (number (drop at s)) (within 0 hi)) r
+      number-digits r f = rw first f
 
 -- ---- a number and the byte that ends it
 

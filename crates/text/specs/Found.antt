@@ -1,9 +1,9 @@
 -- What the code's answers say of what a reader finds in a text s: the value, and the place up to which it was read; or that it finds nothing.
 -- A value and a place fix one another: no second answer says the same of one find. Assumes nothing.
-use Prim.Native.Nat.{ℕ, _≤_}
+use Prim.Native.Nat.{ℕ, _+_, _*_, _≤_, _<_}
 use mathlib.Core.List.{List, _++_}
 use mathlib.Core.Path.{_≡_}
-use lib.ListN.{length, drop}
+use lib.ListN.{length, drop, getD}
 use Rattle.text.specs.HexWords.{wordBytes}
 use Rattle.text.specs.Reader.{Got, got, lost}
 use Rattle.text.specs.declared.Next.{Next}
@@ -29,6 +29,11 @@ FoundNext s g Next·Bad = g ≡ lost
 abbrev pub FoundNumber : List ℕ → Got ℕ → Number → Type 0
 FoundNumber s g (Is x n) = Found s g x n
 FoundNumber s g Number·Bad = g ≡ lost
+
+-- The four bytes of s from a place on as one number, the first the lowest. They are bytes, so the number tells each of them.
+pub record IsFour (s : List ℕ) (at r : ℕ) : Type 0 where
+  pub number : r ≡ getD s at 0 + getD s (at + 1) 0 * 256 + getD s (at + 2) 0 * 65_536 + getD s (at + 3) 0 * 16_777_216
+  pub bytes : (getD s at 0 < 256) × (getD s (at + 1) 0 < 256) × (getD s (at + 2) 0 < 256) × (getD s (at + 3) 0 < 256)
 
 -- Four bytes, as a word.
 abbrev pub FoundWord : List ℕ → ℕ → Got (List ℕ) → Word → Type 0

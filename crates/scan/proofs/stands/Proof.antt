@@ -2,10 +2,11 @@
 -- room for it. The measure is what is left of the literal. Assumes nothing.
 use Prim.Native.Nat.{_+_, _-_, _≤_}
 use mathlib.Core.Path.{_≡_}
+use native.Mathlib.Omega.{arith}
 use lib.ListN.{length, drop}
 use borrow.Author.Needs.{needs}
 use Rattle.text.specs.Reader.{literal}
-use Rattle.text.proofs.FoundLaws.{literal-few, literal-done, literal-wrong, literal-again}
+use Rattle.text.proofs.FoundLaws.{literal-few, four-same, four-other, literal-rest}
 use Rattle.scan.proofs.stands.Statement.{statement}
 use Rattle.scan.proofs.stands.Tie as tie
 
@@ -22,19 +23,24 @@ abbrev μ-loop : tie.MeasureT-loop
 few : tie.Need-returns Inv-loop μ-loop
 few c = search (needs, literal-few)
 
--- Another byte stands there.
-wrong : tie.Need-returns-2 Inv-loop μ-loop
-wrong c = search (needs, literal-wrong)
+-- Other bytes stand there.
+other : tie.Need-returns-2 Inv-loop μ-loop
+other c = search (needs, four-other)
 
--- The right byte stands there.
+-- The right four bytes stand there.
 again : tie.Need-loop-again Inv-loop μ-loop
-again c = search (needs, literal-again)
+again c =
+    let in-loop = c .before .before .before in
+    let inv = in-loop .before .loop .inv in
+    let same = four-same _ _ _ _ _ (inv .2) (in-loop .loop-test .taken) (inv .1) _ _ (c .before .before .four .ensures) (c .before .four2 .ensures) (c .if2 .left) in
+    (omega arith, omega arith, same)
 
--- All of it stands there.
-done : tie.Need-returns-3 Inv-loop μ-loop
-done c = search (needs, literal-done)
+-- The rest decides.
+rest : tie.Need-returns-3 Inv-loop μ-loop
+rest c = search (needs, literal-rest)
 
 pub stands-spec : {M : Type 1} → statement M
 stands-spec =
-    let first = tie.spec Inv-loop μ-loop (λ c. search needs) few (λ c. search needs) (λ c. search needs) (λ c. search needs) wrong in
-    tie.close (first (λ c. search needs) (λ c. search needs) (λ c. search needs) again done)
+    let first = tie.spec Inv-loop μ-loop (λ c. search needs) few (λ c. search needs) (λ c. search needs) (λ c κs. search needs) (λ c κs. search needs) in
+    let second = first other (λ c. search needs) (λ c. search needs) (λ c. search needs) again (λ c κs. search needs) in
+    tie.close (second rest)
