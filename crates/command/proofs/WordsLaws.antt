@@ -140,13 +140,22 @@ wordAt-four at l h =
     let fourth : wordAt at 4 l ≡ wordAt at 3 l * 256 + getD l (at + 3) 0 = wordAt-suc at 3 l (omega arith) in
     omega arith
 
+-- A number is made of its first bytes and of those behind them.
+pub wordAt-add : (at v w : ℕ) (l : List ℕ) → at + (v + w) ≤ length l → wordAt at (v + w) l ≡ wordAt at v l * 256 ^ w + wordAt (at + v) w l
+wordAt-add at v zero l h =
+    let none : wordAt (at + v) 0 l ≡ 0 = wordAt-none (at + v) l in
+    rw (add-zero, none) (omega arith)
+wordAt-add at v (suc w) l h =
+    let here : at + (v + w) < length l = omega arith in
+    let more = wordAt-suc at (v + w) l here in
+    let behind : wordAt (at + v) (suc w) l ≡ wordAt (at + v) w l * 256 + getD l (at + v + w) 0 = wordAt-suc (at + v) w l (omega arith) in
+    let less = wordAt-add at v w l (omega arith) in
+    let same : at + (v + w) ≡ at + v + w = omega arith in
+    rw (add-suc, more, behind, less, same, pow-suc, ← mul-assoc) (omega arith)
+
 -- A number of four bytes is made of two of two bytes.
 pub wordAt-halves : (at : ℕ) (l : List ℕ) → at + 4 ≤ length l → wordAt at 4 l ≡ wordAt at 2 l * 65_536 + wordAt (at + 2) 2 l
-wordAt-halves at l h =
-    let third : wordAt at 3 l ≡ wordAt at 2 l * 256 + getD l (at + 2) 0 = wordAt-suc at 2 l (omega arith) in
-    let fourth : wordAt at 4 l ≡ wordAt at 3 l * 256 + getD l (at + 3) 0 = wordAt-suc at 3 l (omega arith) in
-    let low : wordAt (at + 2) 2 l ≡ getD l (at + 2) 0 * 256 + getD l (at + 3) 0 = rw add-assoc at (wordAt-two (at + 2) l (omega arith)) in
-    omega arith
+wordAt-halves at l h = wordAt-add at 2 2 l h
 
 -- The first word of a list.
 pub wordAt-word : (w x : ℕ) (rest : List ℕ) → x < 256 ^ w → wordAt 0 w (word w x ++ rest) ≡ x

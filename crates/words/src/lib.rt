@@ -34,6 +34,21 @@ pub fn get32(s: &[u8], at: usize) -> u32
     join(s[at], s[at + 1], s[at + 2], s[at + 3])
 }
 
+// The number of two halves.
+pub fn join_halves(high: u32, low: u32) -> u64
+    ensures { λ r. ⌜ r ≡ high * 4_294_967_296 + low ⌝ }
+{
+    (high as u64) * 4_294_967_296 + low as u64
+}
+
+// The number in the eight bytes from a place on.
+pub fn get64(s: &[u8], at: usize) -> u64
+    requires { ⌜ at + 8 ≤ length (now s) ⌝ }
+    ensures { λ r. ⌜ r ≡ wordAt at 8 (now (s .entry)) ⌝ }
+{
+    join_halves(get32(s, at), get32(s, at + 4))
+}
+
 // Writes a number into the four bytes from a place on.
 pub fn put32(s: &mut [u8], at: usize, x: u32)
     requires { ⌜ at + 4 ≤ length (now s) ⌝ }
