@@ -69,11 +69,11 @@ module _
         let f = legalEntries-first low term-most e es legal in
         rw here (line-of e (between-in 1 term-most (e .term) (omega (arith, f .from)) (f .to)) (f .command) (entriesText es))
 
-    module _ (r : EntryAt) (found : FoundEntry s (entryLine 1 term-most (drop at s)) r) where
-      -- The walk is not at its end.
-      pub stood-on : r ≡ End → ⊥
-      stood-on h = lost-never (sym (entry-none s _ r found h) ∙ stands)
+    -- A line stands there.
+    pub stood-there : entryLine 1 term-most (drop at s) ≡ lost → ⊥
+    stood-there h = lost-never (sym h ∙ stands)
 
+    module _ (r : EntryAt) (found : FoundEntry s (entryLine 1 term-most (drop at s)) r) where
       -- It finds that line.
       pub stood-at : (t : Term) (what duration a b n : ℕ) → r ≡ Is t what duration a b n → Stood s e es t what duration a b n
       stood-at t what duration a b n h =
@@ -103,17 +103,19 @@ pub record Walked (s : List ℕ) (at n : ℕ) (t : Term) (what duration a b next
   pub entries-are : entriesFrom n (drop at s) ≡ record { term = t .0; command = ofWords what duration a b } ∷ entriesFrom (n - 1) (drop next s)
   pub lie : Lie (n - 1) (drop next s)
 
-module _
-    (s : List ℕ) (at n : ℕ) (lie : Lie n (drop at s)) (more : 0 < n)
-    (r : EntryAt) (found : FoundEntry s (entryLine 1 term-most (drop at s)) r)
-  where
+module _ (s : List ℕ) (at n : ℕ) (lie : Lie n (drop at s)) (more : 0 < n) where
+  -- A line stands there.
+  pub lie-there : entryLine 1 term-most (drop at s) ≡ lost → ⊥
+  lie-there = go (entriesFrom n (drop at s)) (lie .text-is) (lie .count-is) (lie .legal)
+    where
+      go : (es : List Entry) → drop at s ≡ entriesText es → length es ≡ n → legalEntries 1 term-most es ≡ true → entryLine 1 term-most (drop at s) ≡ lost → ⊥
+      go [] here size legal = absurd (omega arith)
+      go (e ∷ es) here size legal = stood-there s at e es here 1 (omega arith) legal
+
+  module _ (r : EntryAt) (found : FoundEntry s (entryLine 1 term-most (drop at s)) r) where
     -- The walk is not at its end.
     pub lie-on : r ≡ End → ⊥
-    lie-on h = go (entriesFrom n (drop at s)) (lie .text-is) (lie .count-is) (lie .legal)
-      where
-        go : (es : List Entry) → drop at s ≡ entriesText es → length es ≡ n → legalEntries 1 term-most es ≡ true → ⊥
-        go [] here size legal = omega arith
-        go (e ∷ es) here size legal = stood-on s at e es here 1 (omega arith) legal r found h
+    lie-on h = lie-there (entry-none s _ r found h)
 
     -- It finds a line.
     pub lie-next : (t : Term) (what duration a b next : ℕ) → r ≡ Is t what duration a b next → Walked s at n t what duration a b next

@@ -3,7 +3,7 @@ use Prim.Native.Nat.{ℕ, _≤_}
 use mathlib.Core.List.{List, [], _∷_}
 use mathlib.Core.Path.{_≡_}
 use lib.ListN.{length, drop}
-use Rattle.text.specs.Reader.{Got, got, lost}
+use Rattle.text.specs.Reader.{Got, got, lost, onward, pure}
 use Rattle.text.specs.Found.{Found}
 use Rattle.command.specs.Answers.{ofWords}
 use Rattle.command.specs.Entry.{Entry}
@@ -16,6 +16,10 @@ use Rattle.entries.specs.declared.EntryAt.the-variants.{Is, End}
 abbrev pub FoundEntry : List ℕ → Got Entry → EntryAt → Type 0
 FoundEntry s g (Is t what duration a b n) = Found s g (record { term = t .0; command = ofWords what duration a b }) n
 FoundEntry s g End = g ≡ lost
+
+-- The term of what is found: all that is told of a line that is checked.
+abbrev pub termOf : Got Entry → Got ℕ
+termOf g = onward g (λ e. pure (e .term))
 
 -- The least term that may follow entries whose terms go from low on.
 unfoldable pub leastAfter : ℕ → List Entry → ℕ

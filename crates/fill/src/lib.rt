@@ -15,7 +15,6 @@ pub fn put_entries(state: &mut [u8], row: usize, count: u32, lines: &[u8])
     requires { ⌜ Lie count (now lines) × (row + count * row-size ≤ length (now state)) ⌝ }
     ensures { λ _. ⌜ now (state .exit) ≡ sets (now (state .entry)) row (bytesOf logRow (entriesFrom count (now (lines .entry)))) ⌝ }
 {
-    let table = hex::hex_table();
     let mut to = row;
     let mut from = 0;
     let mut left = count;
@@ -27,7 +26,7 @@ pub fn put_entries(state: &mut [u8], row: usize, count: u32, lines: &[u8])
             a,
             b,
             next,
-        } = entries::next_entry(lines, &table, from, 1, kinds::TERM_MOST)
+        } = entries::next_entry(lines, from)
         else {
             return;
         };

@@ -1,11 +1,11 @@
-// Whether a command is legal (rules R7 to R9): by its five numbers, by its four words, at a place of a lent slice, and as a slice of its own;
-// and whether it may be proposed (rule R43). Who reads entries, rows or a proposal asks here.
+// Whether a command is legal (rules R7 to R9): by its five numbers, at a place of a lent slice, and as a slice of its own; and whether it may be
+// proposed (rule R43). Who reads rows or a proposal asks here; the digits of an entry line are tested by `digits`.
 ghost use mathlib.Core.Path.{_≡_};
 ghost use Prim.Native.Nat.{_+_, _≤_};
 ghost use lib.ListN.{length};
 ghost use Rattle.command.specs.Words.{part};
 ghost use Rattle.command.specs.Command.{legalCommand, command-size, commandOf};
-ghost use Rattle.command.specs.Answers.{ofNumbers, ofWords, numbersAt, isCommand};
+ghost use Rattle.command.specs.Answers.{ofNumbers, numbersAt, isCommand};
 ghost use Rattle.command.specs.Proposal.{proposable, isProposal};
 ghost use Rattle.lawful.specs.Limits.{kindLimits};
 use command::Numbers;
@@ -42,19 +42,6 @@ fn may_propose(n: Numbers) -> bool
     ensures { λ r. ⌜ r ≡ proposable (ofNumbers n) ⌝ }
 {
     is_legal(n) & ((n.kind == STOP) | (FELT_LEAST <= n.duration))
-}
-
-// Whether the command of these four words is legal; motor and kind share the first.
-pub fn legal_words(what: u32, duration: u32, a: u32, b: u32) -> bool
-    ensures { λ r. ⌜ r ≡ legalCommand (ofWords what duration a b) ⌝ }
-{
-    is_legal(Numbers {
-        motor: what / 65536,
-        kind: what % 65536,
-        duration: duration,
-        a: a,
-        b: b,
-    })
 }
 
 // The numbers of the 16 bytes from a place on.

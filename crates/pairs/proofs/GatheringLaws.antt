@@ -19,7 +19,9 @@ use Rattle.entries.specs.declared.EntryAt.the-variants.{Is, End}
 use Rattle.message.specs.Text.{entriesText}
 use Rattle.message.specs.Walk.{entryLine, entriesFrom, Lie}
 use Rattle.entries.specs.Found.{FoundEntry}
-use Rattle.entries.proofs.WalkLaws.{stood-on, stood-at}
+use Rattle.text.specs.Reader.{lost}
+use Rattle.entries.proofs.CaseLaws.{entry-none}
+use Rattle.entries.proofs.WalkLaws.{stood-there, stood-at}
 use Rattle.rows.specs.Rows.{row}
 use Rattle.rows.specs.declared.Words.{Words}
 use Rattle.rows.specs.Words.{rowWords}
@@ -121,14 +123,18 @@ module _ {whole s l : List ℕ} {ballot count held i at n : ℕ} (g : Gathering 
   pub gathering-inside : n < count → at + row-size ≤ length l
   gathering-inside more = omega (arith, g .left, g .inside)
 
+  -- The next line stands there.
+  pub gathering-there : n < count → entryLine 1 term-most (drop i s) ≡ lost → ⊥
+  gathering-there more = go (g .rest) refl
+    where
+      go : (rest : List Entry) → g .rest ≡ rest → entryLine 1 term-most (drop i s) ≡ lost → ⊥
+      go [] is = absurd (omega (arith, g .left, ap length is))
+      go (e ∷ es) is = stood-there s i e es (g .lines ∙ ap entriesText is) 1 (omega arith) (rw is at (g .legal))
+
   module _ (more : n < count) (r : EntryAt) (found : FoundEntry s (entryLine 1 term-most (drop i s)) r) where
-    -- The next line stands there.
+    -- And so the walk is not at its end.
     pub gathering-on : r ≡ End → ⊥
-    gathering-on = go (g .rest) refl
-      where
-        go : (rest : List Entry) → g .rest ≡ rest → r ≡ End → ⊥
-        go [] is = absurd (omega (arith, g .left, ap length is))
-        go (e ∷ es) is = stood-on s i e es (g .lines ∙ ap entriesText is) 1 (omega arith) (rw is at (g .legal)) r found
+    gathering-on h = gathering-there more (entry-none s _ r found h)
 
     -- Its entry comes to its row.
     pub gathering-next :

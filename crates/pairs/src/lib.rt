@@ -36,7 +36,6 @@ pub fn gather_in(
     requires { ⌜ (first + count * row-size ≤ length (now state)) × Lie count (now lines) ⌝ }
     ensures { λ _. ⌜ now (state .exit) ≡ gatheredInto (now (state .entry)) first (held .0) (ballot .0) (entriesFrom count (now (lines .entry))) ⌝ }
 {
-    let table = hex::hex_table();
     let mut i = 0;
     let mut row = first;
     let mut n: u32 = 0;
@@ -48,7 +47,7 @@ pub fn gather_in(
             a,
             b,
             next,
-        } = entries::next_entry(lines, &table, i, 1, kinds::TERM_MOST)
+        } = entries::next_entry(lines, i)
         else {
             // Never: a line stands there for each entry.
             return;

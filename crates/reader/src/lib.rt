@@ -24,8 +24,7 @@ pub fn read_message(s: &[u8]) -> Read
         return Read::Refused;
     };
     let span = span::span_of(fields);
-    let table = hex::hex_table();
-    let found = entries::entries_in(s, &table, next, span.count, span.low, span.high);
+    let found = entries::entries_in(s, next, span.count, span.low, span.high);
     if found.read != span.count {
         return Read::Refused;
     }

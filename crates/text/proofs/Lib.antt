@@ -5,5 +5,4 @@ pub mod HexLaws
 pub mod RangeLaws
 pub mod CaseLaws
 pub mod FoundLaws
-pub mod HexWordsLaws
 pub mod WroteLaws

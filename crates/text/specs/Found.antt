@@ -1,19 +1,14 @@
 -- What the code's answers say of what a reader finds in a text s: the value, and the place up to which it was read; or that it finds nothing.
 -- A value and a place fix one another: no second answer says the same of one find. Assumes nothing.
 use Prim.Native.Nat.{ℕ, _+_, _*_, _≤_, _<_}
-use mathlib.Core.List.{List, _++_}
+use mathlib.Core.List.{List}
 use mathlib.Core.Path.{_≡_}
 use lib.ListN.{length, drop, getD}
-use Rattle.text.specs.HexWords.{wordBytes}
 use Rattle.text.specs.Reader.{Got, got, lost}
 use Rattle.text.specs.declared.Next.{Next}
 use Rattle.text.specs.declared.Next.the-variants.{At, Bad as Next·Bad}
 use Rattle.text.specs.declared.Number.{Number}
 use Rattle.text.specs.declared.Number.the-variants.{Is, Bad as Number·Bad}
-use Rattle.text.specs.declared.Word.{Word}
-use Rattle.text.specs.declared.Word.the-variants.{Is as Word·Is, Bad as Word·Bad}
-use Rattle.text.specs.declared.Words.{Words}
-use Rattle.text.specs.declared.Words.the-variants.{Are, Bad as Words·Bad}
 
 -- The reader found a, and left what stands in s from the place n on.
 pub record Found {A : Type 0} (s : List ℕ) (g : Got A) (a : A) (n : ℕ) : Type 0 where
@@ -34,13 +29,3 @@ FoundNumber s g Number·Bad = g ≡ lost
 pub record IsFour (s : List ℕ) (at r : ℕ) : Type 0 where
   pub number : r ≡ getD s at 0 + getD s (at + 1) 0 * 256 + getD s (at + 2) 0 * 65_536 + getD s (at + 3) 0 * 16_777_216
   pub bytes : (getD s at 0 < 256) × (getD s (at + 1) 0 < 256) × (getD s (at + 2) 0 < 256) × (getD s (at + 3) 0 < 256)
-
--- Four bytes, as a word.
-abbrev pub FoundWord : List ℕ → ℕ → Got (List ℕ) → Word → Type 0
-FoundWord s n g (Word·Is w) = Found s g (wordBytes w) n
-FoundWord s n g Word·Bad = g ≡ lost
-
--- Sixteen bytes, as four words.
-abbrev pub FoundWords : List ℕ → Got (List ℕ) → Words → Type 0
-FoundWords s g (Are a b c d n) = Found s g (wordBytes a ++ (wordBytes b ++ (wordBytes c ++ wordBytes d))) n
-FoundWords s g Words·Bad = g ≡ lost

@@ -2,7 +2,6 @@ pub mod Ascii
 pub mod Reader
 pub mod Decimal
 pub mod Hex
-pub mod HexWords
 pub mod Line
 pub mod Range
 pub mod Found

@@ -1,5 +1,5 @@
 // Text as rule R27 has it: decimal numbers, lower-case hex digits and `key=` lines. What a reader answers, and the bytes that readers and
-// writers share. The definitions and their laws stand beside; who reads is in `scan` and `hex`, who writes in `print` and `hex`.
+// writers share. The definitions and their laws stand beside; who reads is in `scan` and `digits`, who writes in `print` and `hex`.
 
 // The byte of the digit 0. The other digits follow it.
 pub const ZERO: u8 = 48;
@@ -15,23 +15,5 @@ pub enum Next {
 // A number, and the place past what was read.
 pub enum Number {
     Is { value: u32, next: usize },
-    Bad,
-}
-
-// A word.
-pub enum Word {
-    Is(u32),
-    Bad,
-}
-
-// Four words, the first the first in the text, and the place past what was read.
-pub enum Words {
-    Are {
-        a: u32,
-        b: u32,
-        c: u32,
-        d: u32,
-        next: usize,
-    },
     Bad,
 }

@@ -8,33 +8,31 @@ use Rattle.entries.proofs.entries_in.Statement.{statement}
 use Rattle.entries.proofs.entries_in.Tie as tie
 
 abbrev Inv-loop : tie.InvT-loop
-Inv-loop s table at count low high next₀ read₀ least₀ next read least = Walking s at count low high next read least
+Inv-loop s at count low high next₀ read₀ least₀ next read least = Walking s at count low high next read least
 
 abbrev μ-loop : tie.MeasureT-loop
-μ-loop s table at count low high next₀ read₀ least₀ next read least = count - read
+μ-loop s at count low high next₀ read₀ least₀ next read least = count - read
 
 -- At first no line was read.
 begins : tie.Need-loop-holds Inv-loop μ-loop
 begins c =
     let start = c .before in
-    walking-none (start .args .s .now) (start .args .at) (start .args .count) (start .args .low) (start .args .high) (start .pre .0)
+    walking-none (start .args .s .now) (start .args .at) (start .args .count) (start .args .low) (start .args .high) (start .pre)
 
 -- The next line is none.
 stuck : tie.Need-returns Inv-loop μ-loop
 stuck c =
     let at-entry-in = c .before .before in
     let at-loop-test = at-entry-in .before in
-    walking-stuck (at-loop-test .before .loop .inv) (at-loop-test .loop-test .taken) (at-entry-in .entry-in .result) (at-entry-in .entry-in .ensures)
-    (c .enum-told .given .1)
+    walking-stuck (at-loop-test .before .loop .inv) (at-loop-test .loop-test .taken) _ (at-entry-in .entry-in .ensures) (c .enum-told .given .1)
 
 -- It was read.
 again : tie.Need-loop-again Inv-loop μ-loop
 again c =
-    let at-term = c .before .before in
-    let at-entry-in = at-term .before .before in
+    let at-value = c .before in
+    let at-entry-in = at-value .before .before in
     let at-loop-test = at-entry-in .before in
-    walking-again (at-loop-test .before .loop .inv) (at-loop-test .loop-test .taken) (at-entry-in .entry-in .result) (at-entry-in .entry-in .ensures)
-    (at-term .term .given .1) (c .number .ensures)
+    walking-again (at-loop-test .before .loop .inv) (at-loop-test .loop-test .taken) _ (at-entry-in .entry-in .ensures) (at-value .value .given .1)
 
 -- No line is left.
 done : tie.Need-returns-2 Inv-loop μ-loop
@@ -42,5 +40,5 @@ done c = walking-done (c .before .loop .inv) (λ m. omega arith)
 
 pub entries-in-spec : {M : Type 1} → statement M
 entries-in-spec =
-    let begun = tie.spec Inv-loop μ-loop begins (λ c κs. search needs) (λ c. search needs) (λ c. search needs) stuck (λ c κs. search needs) in
+    let begun = tie.spec Inv-loop μ-loop begins (λ c κs. search needs) (λ c. search needs) (λ c. search needs) stuck in
     tie.close (begun (λ c. search needs) (λ c. search needs) again done)

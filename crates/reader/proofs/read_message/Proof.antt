@@ -19,22 +19,21 @@ no-opening c =
     let s = at-room .before .before .args .s .now in
     told _ _ (read-no-opening s _ (at-room .text-room .ensures) (at-if1 .if1 .left) (at-opening-in .opening-in .result) (at-opening-in .opening-in .ensures) (c .enum-told .given .1))
 
--- They end inside the text, and the table is one of hex digits.
-lent : tie.Need-entries-in-requires
-lent c κs =
-    let at-hex-table = c .before in
-    let at-fields = at-hex-table .before .before .before in
+-- They end inside the text.
+inside : tie.Need-entries-in-requires
+inside c κs =
+    let at-fields = c .before .before in
     let at-opening-in = at-fields .before .before in
     let at-if1 = at-opening-in .before in
     let at-room = at-if1 .before in
     let s = at-room .before .before .args .s .now in
-    (read-inside s _ (at-room .text-room .ensures) (at-if1 .if1 .left) (at-opening-in .opening-in .result) (at-opening-in .opening-in .ensures) _ _ (at-fields .fields .given .1), at-hex-table .hex-table .ensures)
+    read-inside s _ (at-room .text-room .ensures) (at-if1 .if1 .left) (at-opening-in .opening-in .result) (at-opening-in .opening-in .ensures) _ _ (at-fields .fields .given .1)
 
 -- An entry is not there, or is not legal.
 no-entries : tie.Need-returns-3
 no-entries c =
     let at-entries-in = c .before .before .before in
-    let at-span-of = at-entries-in .before .before .before in
+    let at-span-of = at-entries-in .before in
     let at-fields = at-span-of .before .before in
     let at-opening-in = at-fields .before .before in
     let at-if1 = at-opening-in .before in
@@ -50,7 +49,7 @@ more : tie.Need-returns-4
 more c =
     let at-all = c .before .before in
     let at-entries-in = at-all .before .before .before in
-    let at-span-of = at-entries-in .before .before .before in
+    let at-span-of = at-entries-in .before in
     let at-fields = at-span-of .before .before in
     let at-opening-in = at-fields .before .before in
     let at-if1 = at-opening-in .before in
@@ -66,7 +65,7 @@ all : tie.Need-returns-5
 all c =
     let at-all = c .before .before in
     let at-entries-in = at-all .before .before .before in
-    let at-span-of = at-entries-in .before .before .before in
+    let at-span-of = at-entries-in .before in
     let at-fields = at-span-of .before .before in
     let at-opening-in = at-fields .before .before in
     let at-if1 = at-opening-in .before in
@@ -80,4 +79,4 @@ all c =
 pub read-message-spec : {M : Type 1} → statement M
 read-message-spec =
     let first = tie.spec (λ c κs. search needs) long (λ c κs. search needs) (λ c. search needs) (λ c. search needs) no-opening (λ c κs. search needs) in
-    tie.close (first (λ c κs. search needs) lent no-entries more all)
+    tie.close (first inside no-entries more all)
