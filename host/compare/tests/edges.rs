@@ -421,6 +421,38 @@ fn every_shape_is_received_alike() {
     assert!(tally.outcomes[Outcome::Done] >= 200 && tally.outcomes[Outcome::NotAddressed] >= 500);
 }
 
+/// What a follower stores of an append, and a candidate of a vote-yes: random commands, with terms of one to ten digits.
+#[test]
+fn random_entries_are_stored_alike() {
+    let mut tally = Tally::default();
+    let mut rng = Rng::seeded(seed());
+    for term in [3, 30, 1_000_000, u32::MAX] {
+        let follower = Image { term: term - 1, ..Image::default() };
+        let candidate = Image { term, role: CANDIDATE, voters: [1, 0, 0, 0, 0, 0, 0], ..Image::default() };
+        for _ in 0..40 {
+            let count = 1 + rng.up_to(63);
+            let entries = bytes_of_rows(&states::rising(&mut rng, count, 1, term - 1));
+            let append = Sample { fields: [4, term, 2, 1, 0, 0, 0, count], rows: entries.clone() };
+            let yes = Sample { fields: [2, term, 2, 1, 0, term - 1, 0, count], rows: entries };
+            for (image, sample) in [(&follower, append), (&candidate, yes)] {
+                let (state, input) = (image.bytes(), &sample.text());
+                tally.compare(&Call {
+                    n: 5,
+                    own: 1,
+                    event: RECEIVE,
+                    a: 0,
+                    b: 0,
+                    state: &state,
+                    input,
+                    room: ROOM,
+                });
+            }
+        }
+    }
+    println!("{tally:?}");
+    assert!(tally.outcomes[Outcome::Done] >= 160);
+}
+
 #[test]
 fn every_cut_text_is_received_alike() {
     let mut tally = Tally::default();

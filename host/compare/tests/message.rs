@@ -79,6 +79,75 @@ fn every_truncation_is_read_alike() {
     assert!(done > 15_000);
 }
 
+/// Commands of each kind, the ends of their ranges among them.
+const COMMANDS: [&str; 6] = [
+    "00010000000000000000000000000000",
+    "00400001000000013f80000000000000",
+    "00030001000927c03f7fffff00000000",
+    "003f0002000000143f800000000abcde",
+    "000900020009279f1234567800000001",
+    "002a000200078bcd3e9f0acf3f800000",
+];
+
+/// Appends of two such entries, the first with a term of one, two or ten digits: the texts before, of and behind its line.
+fn entry_lines() -> impl Iterator<Item = [String; 3]> {
+    let numbers =
+        |term| format!("type=append\nterm={term}\nfrom=1\nto=2\nprev=0\nprevterm=0\nchosen=0\ncount=2\n");
+    [7u32, 42, u32::MAX].into_iter().flat_map(move |term| {
+        COMMANDS.map(|command| {
+            let line = format!("entry={term}:{command}\n");
+            [numbers(term), line, format!("entry={term}:{}\n", COMMANDS[0])]
+        })
+    })
+}
+
+/// Digits are looked at eight at a time: no byte at any of their places may be taken for another, or hide a wrong one beside it.
+#[test]
+fn every_byte_of_an_entry_line_is_read_alike() {
+    let mut done = 0;
+    for [before, line, behind] in entry_lines() {
+        let mut text = [before.as_str(), &line, &behind].concat().into_bytes();
+        for at in before.len()..before.len() + line.len() {
+            let right = text[at];
+            for byte in 0..=u8::MAX {
+                text[at] = byte;
+                done += compare_read(&text);
+            }
+            text[at] = right;
+        }
+    }
+    println!("{done} comparisons");
+    assert!(done > 150_000);
+}
+
+/// Numbers at and next to the ends of what a command may have, and others with the same low or high digits.
+const MOTORS: [u16; 9] = [0, 1, 9, 10, 63, 64, 65, 0x0140, 0x4000];
+const KINDS: [u16; 8] = [0, 1, 2, 3, 9, 10, 0x0100, 0x1000];
+const DURATIONS: [u32; 10] = [0, 1, 19, 20, 599_999, 600_000, 600_001, 0x0009_2800, 0x8000_0000, u32::MAX];
+const GAINS: [u32; 8] = [0, 1, 0x3f7f_ffff, 0x3f80_0000, 0x3f80_0001, 0x3fa0_0000, 0x4000_0000, 0x8000_0000];
+
+#[test]
+fn every_command_at_a_limit_is_read_alike() {
+    let mut done = 0;
+    for motor in MOTORS {
+        for kind in KINDS {
+            for duration in DURATIONS {
+                for a in GAINS {
+                    for b in GAINS {
+                        let digits = format!("{motor:04x}{kind:04x}{duration:08x}{a:08x}{b:08x}");
+                        let text = format!(
+                            "type=vote-yes\nterm=9\nfrom=1\nto=2\nlast=0\nballot=5\ncount=1\nentry=5:{digits}\n"
+                        );
+                        done += compare_read(text.as_bytes());
+                    }
+                }
+            }
+        }
+    }
+    println!("{done} comparisons");
+    assert_eq!(done, 46_080);
+}
+
 /// A text's lines, with their ends.
 fn lines(text: &[u8]) -> Vec<&[u8]> {
     text.split_inclusive(|&byte| byte == b'\n').collect()
