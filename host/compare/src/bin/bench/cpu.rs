@@ -22,9 +22,9 @@ pub fn now() -> u64 {
     time.seconds as u64 * 1_000_000_000 + time.nanoseconds as u64
 }
 
-/// So many calls of a piece of work that a round of them takes a quarter of a millisecond or more, against which the clock's own time does not count.
+/// So many calls of a piece of work that a round of them takes two milliseconds or more, against which the clock's own time does not count.
 pub fn calls_of(mut work: impl FnMut()) -> u32 {
-    const ROUND: f64 = 250_000.0;
+    const ROUND: f64 = 2_000_000.0;
     let mut calls = 1;
     while each(calls, &mut work) * f64::from(calls) < ROUND {
         calls *= 2;

@@ -21,9 +21,12 @@ const TABLES: [(&str, fn()); 7] = [
     ("stack", stack::print),
 ];
 
-/// Prints the tables that are named, or all.
+/// Prints the tables that are named, or all. `counted` alone is for `host/counted`.
 fn main() {
     let asked: Vec<String> = std::env::args().skip(1).collect();
+    if asked == ["counted"] {
+        return reading::count();
+    }
     for (name, print) in TABLES {
         if asked.is_empty() || asked.iter().any(|word| word == name) {
             print();

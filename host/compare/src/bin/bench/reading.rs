@@ -61,6 +61,19 @@ const HARMS: [(&str, Harm); 6] = [
     ("one byte too long", |_, text| text.resize(ROOM + 1, b'\n')),
 ];
 
+/// A reading by the proved library, into numbers that are lent again at each.
+fn ours() -> impl FnMut(&[u8]) {
+    let mut numbers = [0; FIELDS];
+    move |text| {
+        black_box(read_packed(text, &mut numbers));
+    }
+}
+
+/// A reading by the independent program.
+fn theirs(text: &[u8]) {
+    black_box(message::read(text).message.is_ok());
+}
+
 /// Reads the next of the texts at each call.
 fn reads(texts: &[Vec<u8>], mut read: impl FnMut(&[u8])) -> impl FnMut() {
     let mut turns = texts.iter().cycle();
@@ -68,14 +81,8 @@ fn reads(texts: &[Vec<u8>], mut read: impl FnMut(&[u8])) -> impl FnMut() {
 }
 
 fn measure(texts: &[Vec<u8>]) -> (f64, f64) {
-    let ours = |text: &[u8]| {
-        black_box(read_packed(text, &mut [0; FIELDS]));
-    };
-    let theirs = |text: &[u8]| {
-        black_box(message::read(text).message.is_ok());
-    };
-    let calls = calls_of(reads(texts, ours)).max(TEXTS as u32);
-    medians(calls, reads(texts, ours), reads(texts, theirs))
+    let calls = calls_of(reads(texts, ours())).max(TEXTS as u32);
+    medians(calls, reads(texts, ours()), reads(texts, theirs))
 }
 
 fn texts(rng: &mut Rng, make: Maker, harm: Harm) -> Vec<Vec<u8>> {
@@ -94,5 +101,25 @@ pub fn print() {
     for (what, make) in SHAPES {
         let cells = HARMS.map(|(_, harm)| table::cell(measure(&texts(rng, make, harm))));
         table::row(&table::wide(what, &cells));
+    }
+}
+
+/// Reads each text once: `host/counted` counts the instructions between the beginning and the end of this function.
+#[unsafe(no_mangle)]
+#[inline(never)]
+fn bench_counted(texts: &[Vec<u8>], read: &mut dyn FnMut(&[u8])) {
+    texts.iter().for_each(|text| read(black_box(text)));
+}
+
+/// Does what the table times, each reading once by both programs, and names its cells.
+pub fn count() {
+    let rng = &mut Rng::quiet(seed());
+    for (what, make) in SHAPES {
+        for (harm, damage) in HARMS {
+            let texts = texts(rng, make, damage);
+            println!("{what}|{harm}|{TEXTS}");
+            bench_counted(&texts, &mut ours());
+            bench_counted(&texts, &mut theirs);
+        }
     }
 }
