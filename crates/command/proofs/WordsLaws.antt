@@ -2,7 +2,7 @@
 -- of 32 bits as a signed number, the same both ways, in these definitions and in those of the code's casts. Assumes nothing.
 use Prim.Native.Nat.{ℕ, zero, suc, _+_, _-_, _*_, _/_, _%_, _^_, _≤_, _<_}
 use native.Mathlib.Omega.{arith}
-use native.Mathlib.Nat.{pow-suc, zero-add, add-suc, add-assoc, div-div-eq-div-mul, add-zero, div-add-mod', div-lt-iff-lt-mul, mul-add-div-right, mul-add-mod-self-right, mod-lt, mul-le-mul-right, mul-assoc, pow-succ', lt-of-lt-of-le}
+use native.Mathlib.Nat.{pow-suc, zero-add, add-suc, div-div-eq-div-mul, add-zero, div-add-mod', div-lt-iff-lt-mul, mul-add-div-right, mul-add-mod-self-right, mod-lt, mul-le-mul-right, mul-assoc, pow-succ', lt-of-lt-of-le}
 use mathlib.Core.Path.{_≡_, refl, sym, _∙_, ap}
 use mathlib.Core.Bool.{false, true≢false}
 use mathlib.Core.List.{List, [], _∷_, _++_, append-assoc, append-nil}

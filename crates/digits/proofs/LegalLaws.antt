@@ -71,37 +71,18 @@ module _ (m k d x y : ℕ) where
 
 -- ---- the constants of the code
 
-motor-least : inDigits 2 1 ≡ 0x3030_3031
+-- The digits of motors 1 and 64, of kinds 0 and 2, of the numbers 0, 1 and 600,000, and of the greatest gain.
+constants :
+    (inDigits 2 1 ≡ 0x3030_3031)
+    × (inDigits 2 64 ≡ 0x3030_3430)
+    × (inDigits 2 0 ≡ 0x3030_3030)
+    × (inDigits 2 2 ≡ 0x3030_3032)
+    × (inDigits 4 0 ≡ 0x3030_3030_3030_3030)
+    × (inDigits 4 1 ≡ 0x3030_3030_3030_3031)
+    × (inDigits 4 600_000 ≡ 0x3030_3039_3237_6330)
+    × (inDigits 4 gain-most ≡ 0x3366_3830_3030_3030)
 unfolding inDigits value hex word hexDigit
-motor-least = refl
-
-motor-most : inDigits 2 64 ≡ 0x3030_3430
-unfolding inDigits value hex word hexDigit
-motor-most = refl
-
-stop : inDigits 2 0 ≡ 0x3030_3030
-unfolding inDigits value hex word hexDigit
-stop = refl
-
-ramp : inDigits 2 2 ≡ 0x3030_3032
-unfolding inDigits value hex word hexDigit
-ramp = refl
-
-none : inDigits 4 0 ≡ 0x3030_3030_3030_3030
-unfolding inDigits value hex word hexDigit
-none = refl
-
-duration-least : inDigits 4 1 ≡ 0x3030_3030_3030_3031
-unfolding inDigits value hex word hexDigit
-duration-least = refl
-
-duration-most : inDigits 4 600_000 ≡ 0x3030_3039_3237_6330
-unfolding inDigits value hex word hexDigit
-duration-most = refl
-
-gain : inDigits 4 gain-most ≡ 0x3366_3830_3030_3030
-unfolding inDigits value hex word hexDigit
-gain = refl
+constants = (refl, refl, refl, refl, refl, refl, refl, refl)
 
 -- The code's tests tell whether the command is legal, with the limits that it picks by kind.
 pub digits-tell : {motor kind duration a b least most a-most b-most : ℕ} →
@@ -113,5 +94,6 @@ pub digits-tell : {motor kind duration a b least most a-most b-most : ℕ} →
     (leb kind 0x3030_3032 && leb 0x3030_3031 motor && leb motor 0x3030_3430
     && leb least duration && leb duration most && leb a a-most && leb b b-most)
 digits-tell el em ea eb m k d x y hm hk hd hx hy motor kind duration a b =
+    let (motor-least, motor-most, stop, ramp, none, duration-least, duration-most, gain) = constants in
     rw (el, em, ea, eb, motor, kind, duration, a, b, ← motor-least, ← motor-most, ← stop, ← ramp, ← none, ← duration-least, ← duration-most, ← gain)
     (in-digits-tested m k d x y hm hk hd hx hy ∙ tested-legal m k d x y)

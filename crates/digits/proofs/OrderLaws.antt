@@ -63,7 +63,7 @@ inDigits-suc n x =
     ∙ (value-append 0 (hex (word n (x / 256))) (hex (x % 256 ∷ [])) ∙ omega arith)
 
 -- A lesser number has lesser digits.
-pub inDigits-less : (n u w : ℕ) → u < w → w < 256 ^ n → inDigits n u < inDigits n w
+inDigits-less : (n u w : ℕ) → u < w → w < 256 ^ n → inDigits n u < inDigits n w
 inDigits-less zero u w h below = absurd (omega arith)
 inDigits-less (suc n) u w h below =
     let high : w / 256 < 256 ^ n = div-lt-iff-lt-mul {k = 256} (omega arith) .1 (rw pow-suc at below) in

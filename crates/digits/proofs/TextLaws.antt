@@ -10,21 +10,19 @@ use lib.ListN.{length, take, drop, length-append, length-drop}
 use lib.Seq.{take-at, take-nil, drop-at, drop-nil, drop-drop}
 use Rattle.kinds.specs.Sizes.{between}
 use Rattle.kinds.proofs.BoolLaws.{not-both}
-use Rattle.text.specs.Reader.{Got, got, lost, pure}
+use Rattle.text.specs.Reader.{Got, got, lost}
 use Rattle.text.specs.Decimal.{isDigit}
-use Rattle.text.specs.Found.{Found}
 use Rattle.text.specs.Hex.{hexDigit, hex, nibble, hexByte, hexBytes}
 use Rattle.text.proofs.HexLaws.{nibble-digit, nibble-letter, hex-sound, hex-length}
-use Rattle.text.proofs.ReaderLaws.{onward-got, lost-never}
-use Rattle.command.specs.Words.{word, value, part, wordAt, signed}
+use Rattle.text.proofs.ReaderLaws.{onward-got}
+use Rattle.command.specs.Words.{word, value, part, wordAt}
 use Rattle.command.specs.Command.{legalCommand, commandOf}
 use Rattle.command.proofs.Tests.{by-test, both}
 use Rattle.command.proofs.WordsLaws.{Bytes, wordAt-part, word-wordAt, wordAt-below, part-then, part-length, wordAt-add}
 use Rattle.rows.proofs.PartLaws.{part-split}
 use Rattle.rows.specs.Words.{wordsAt}
-use Rattle.rows.specs.declared.Words.{Words}
 use Rattle.digits.specs.Digits.{isHexDigit, allDigits, inDigits, legalDigits}
-use Rattle.digits.specs.Found.{FoundWords}
+use Rattle.digits.specs.Found.{IsWordOf, FoundWords}
 use Rattle.digits.specs.Legal.{Tells}
 use Rattle.digits.proofs.LaneLaws.{every, every-at}
 use Rattle.digits.proofs.MarkLaws.{digits-append}
@@ -133,6 +131,7 @@ module _ (s : List ℕ) (at : ℕ) where
 
 -- ---- numbers in the text
 
+-- Behind the digits of k bytes stand those of the others,
 hex-drop : (k : ℕ) (bs : List ℕ) → drop (k * 2) (hex bs) ≡ hex (drop k bs)
 unfolding hex
 hex-drop zero bs = refl
@@ -141,6 +140,7 @@ hex-drop (suc k) (b ∷ bs) =
     let two : suc k * 2 ≡ suc (suc (k * 2)) = omega arith in
     rw two (hex-drop k bs)
 
+-- the first digits are those of the first bytes,
 hex-take : (n : ℕ) (bs : List ℕ) → take (n * 2) (hex bs) ≡ hex (take n bs)
 unfolding hex
 hex-take zero bs = refl
@@ -149,13 +149,14 @@ hex-take (suc n) (b ∷ bs) =
     let two : suc n * 2 ≡ suc (suc (n * 2)) = omega arith in
     rw two (ap (λ (l : List ℕ). hexDigit (b / 16) ∷ hexDigit (b % 16) ∷ l) (hex-take n bs))
 
+-- and so are those between: the number that they make is one of bytes in digits.
 hex-number : (k n : ℕ) (bs : List ℕ) → wordAt (k * 2) (n * 2) (hex bs) ≡ value 0 (hex (part k n bs))
 unfolding wordAt part
 hex-number k n bs = rw hex-drop (ap (value 0) (hex-take n (drop k bs)))
 
 module _ (s : List ℕ) (at : ℕ) (f : Stand s at) where
   -- The digits of n bytes, taken for one number.
-  pub in-text : (k n : ℕ) → k + n ≤ 16 → wordAt (at + k * 2) (n * 2) s ≡ inDigits n (wordAt k n (f .bytes))
+  in-text : (k n : ℕ) → k + n ≤ 16 → wordAt (at + k * 2) (n * 2) s ≡ inDigits n (wordAt k n (f .bytes))
   unfolding inDigits
   in-text k n h =
       let here : wordAt (k * 2) (n * 2) (part at 32 s) ≡ wordAt (at + k * 2) (n * 2) s = wordAt-part at 32 (k * 2) (n * 2) s (omega arith) in
@@ -164,16 +165,17 @@ module _ (s : List ℕ) (at : ℕ) (f : Stand s at) where
       sym here ∙ ap (wordAt (k * 2) (n * 2)) (f .text) ∙ digits ∙ ap (λ (l : List ℕ). value 0 (hex l)) (sym bytes)
 
   -- Such a number fits.
-  pub small-below : (k n : ℕ) → k + n ≤ 16 → wordAt k n (f .bytes) < 256 ^ n
+  small-below : (k n : ℕ) → k + n ≤ 16 → wordAt k n (f .bytes) < 256 ^ n
   small-below k n h = wordAt-below k n (f .bytes) (omega (arith, f .count)) (f .small)
 
 -- ---- tested
 
--- What is told of bytes that are not read, and of those that are.
+-- Where no bytes are read, no legal command's digits stand.
 pub legal-lost : (s : List ℕ) → hexBytes 16 s ≡ lost → legalDigits s ≡ false
 unfolding legalDigits
 legal-lost s e = simp (e, legalDigits)
 
+-- Where bytes are read, their command decides.
 pub legal-got : (s : List ℕ) {bs rest : List ℕ} → hexBytes 16 s ≡ got bs rest → legalDigits s ≡ legalCommand (commandOf bs)
 unfolding legalDigits
 legal-got s e = simp (e, legalDigits)
@@ -214,7 +216,7 @@ module _ (s : List ℕ) (at : ℕ) (room : at + 32 ≤ length s) (bytes : Bytes 
         (em ∙ first) (ek ∙ t 2 2 (omega arith)) (ed ∙ t 4 4 (omega arith)) (ea ∙ t 8 4 (omega arith)) (eb ∙ t 12 4 (omega arith))
 
     -- All are digits, and a legal command's.
-    pub told : (eights && r) ≡ legalDigits (drop at s)
+    told : (eights && r) ≡ legalDigits (drop at s)
     told =
         by-test (allDigits (part at 32 s))
         (λ t.
@@ -233,15 +235,15 @@ module _ (s : List ℕ) (at : ℕ) (room : at + 32 ≤ length s) (bytes : Bytes 
 
 module _ (s : List ℕ) (at : ℕ) (f : Stand s at) where
   -- The word of the eight digits behind those of k bytes.
-  word-is : (k x r : ℕ) → k + 4 ≤ 16 → x ≡ wordAt (at + k * 2) 8 s → ((w : ℕ) → w < 4_294_967_296 → x ≡ inDigits 4 w → r ≡ w) → r ≡ wordAt k 4 (f .bytes)
+  word-is : (k x r : ℕ) → k + 4 ≤ 16 → x ≡ wordAt (at + k * 2) 8 s → IsWordOf x r → r ≡ wordAt k 4 (f .bytes)
   word-is k x r h e is = is _ (small-below s at f k 4 h) (e ∙ in-text s at f k 4 h)
 
   -- Four such words are those of the bytes.
-  pub words-found : {x y z w : ℕ} {what duration a b : ℕ} →
-      x ≡ wordAt at 8 s → ((n : ℕ) → n < 4_294_967_296 → x ≡ inDigits 4 n → what ≡ n) →
-      y ≡ wordAt (at + 8) 8 s → ((n : ℕ) → n < 4_294_967_296 → y ≡ inDigits 4 n → duration ≡ n) →
-      z ≡ wordAt (at + 16) 8 s → ((n : ℕ) → n < 4_294_967_296 → z ≡ inDigits 4 n → a ≡ n) →
-      w ≡ wordAt (at + 24) 8 s → ((n : ℕ) → n < 4_294_967_296 → w ≡ inDigits 4 n → b ≡ n) →
+  pub words-found : {x y z w what duration a b : ℕ} →
+      x ≡ wordAt at 8 s → IsWordOf x what →
+      y ≡ wordAt (at + 8) 8 s → IsWordOf y duration →
+      z ≡ wordAt (at + 16) 8 s → IsWordOf z a →
+      w ≡ wordAt (at + 24) 8 s → IsWordOf w b →
       FoundWords s at (record { what = what; duration = duration; a = a; b = b })
   unfolding wordsAt
   words-found {x} {y} {z} {w} {what} {duration} {a} {b} ex is-what ey is-duration ez is-a ew is-b =

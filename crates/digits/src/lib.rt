@@ -2,14 +2,14 @@
 // number of them; and the words of a command whose digits are known to stand there. Who reads entries calls these.
 ghost use mathlib.Core.Path.{_≡_};
 ghost use mathlib.Core.Bool.{cond};
-ghost use Prim.Native.Nat.{ℕ, _+_, _<_, _≤_};
+ghost use Prim.Native.Nat.{_+_, _≤_};
 ghost use lib.ListN.{length, drop};
 ghost use Rattle.text.specs.Reader.{lost};
 ghost use Rattle.text.specs.Hex.{hexBytes};
 ghost use Rattle.command.specs.Words.{word};
 ghost use Rattle.command.specs.Command.{command-size};
-ghost use Rattle.digits.specs.Digits.{allDigits, inDigits, legalDigits, digits-size};
-ghost use Rattle.digits.specs.Found.{FoundWords};
+ghost use Rattle.digits.specs.Digits.{allDigits, legalDigits, digits-size};
+ghost use Rattle.digits.specs.Found.{IsWordOf, FoundWords};
 ghost use Rattle.digits.specs.Legal.{Tells};
 use rows::Words;
 
@@ -86,7 +86,7 @@ pub fn are_legal(s: &[u8], at: usize) -> bool
 
 // The word of which these are the eight digits, all made values at once, and then joined in pairs, fours and eights.
 fn word_of(x: u64) -> u32
-    ensures { λ r. ⌜ ((w : ℕ) → w < 4_294_967_296 → x ≡ inDigits 4 w → r ≡ w) ⌝ }
+    ensures { λ r. ⌜ IsWordOf x r ⌝ }
 {
     // A letter has bit 6, and is 9 more than its low bits say.
     let v = (x & 0x0f0f_0f0f_0f0f_0f0f) + 9 * ((x & 0x4040_4040_4040_4040) / 64);

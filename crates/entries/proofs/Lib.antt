@@ -1,3 +1,5 @@
 pub mod CaseLaws
+pub mod LineLaws
+pub mod CheckLaws
 pub mod EntryLaws
 pub mod WalkLaws

@@ -24,7 +24,7 @@ use Rattle.entries.specs.Found.{FoundEntry}
 use Rattle.entries.specs.declared.EntryAt.{EntryAt}
 use Rattle.entries.specs.declared.EntryAt.the-variants.{Is, End}
 use Rattle.entries.proofs.CaseLaws.{entry-at, entry-none}
-use Rattle.entries.proofs.EntryLaws.{entryIn-line}
+use Rattle.entries.proofs.LineLaws.{entryIn-line}
 use Rattle.message.proofs.LegalLaws.{legal-held}
 use Rattle.message.proofs.TextLaws.{entry-written, entries-written}
 use Rattle.message.proofs.RangeLaws.{keepIf, entryIn-is}

@@ -1,7 +1,7 @@
 -- `entries::next_entry` meets its contract: the parts of the line that stands there, one after the other. Assumes nothing.
 use native.Mathlib.Omega.{arith}
 use borrow.Author.Needs.{needs}
-use Rattle.entries.proofs.EntryLaws.{stands-key, stands-no-term, stands-digits, stands-line}
+use Rattle.entries.proofs.LineLaws.{stands-key, stands-no-term, stands-digits, stands-line}
 use Rattle.entries.proofs.next_entry.Statement.{statement}
 use Rattle.entries.proofs.next_entry.Tie as tie
 
