@@ -18,21 +18,21 @@ pub const MANY: usize = 32;
 
 // ---- a legal command's digits
 
-// Numbers by their digits: motors 1 and 64, a stop, a ramp; 0, the shortest and the longest duration, the greatest gain.
+// The digits 0001: the first motor.
 const MOTOR_LEAST: u32 = 0x3030_3031;
-
+// 0040: the last motor, 64.
 const MOTOR_MOST: u32 = 0x3030_3430;
-
+// 0000: the kind of a stop.
 const STOP: u32 = 0x3030_3030;
-
+// 0002: the kind of a ramp, the last.
 const RAMP: u32 = 0x3030_3032;
-
+// 00000000: no duration, no gain.
 const NONE: u64 = 0x3030_3030_3030_3030;
-
+// 00000001: the shortest duration, in ms.
 const DURATION_LEAST: u64 = 0x3030_3030_3030_3031;
-
+// 000927c0: the longest, 600,000.
 const DURATION_MOST: u64 = 0x3030_3039_3237_6330;
-
+// 3f800000: the greatest gain, 1.0.
 const GAIN_MOST: u64 = 0x3366_3830_3030_3030;
 
 // Whether eight bytes are hex digits, all of them looked at at once: the highest bit of each byte tells of it alone, since no sum here leaves its byte.

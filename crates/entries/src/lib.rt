@@ -35,9 +35,9 @@ pub struct Entries {
     pub next: usize,
 }
 
-// The bytes of the key `entry=`, and those behind an entry's colon: the digits of its command and the end of the line.
+// The bytes of the key `entry=`.
 const KEY: usize = 6;
-
+// The bytes behind an entry's colon: the digits of its command and the end of the line.
 const TAIL: usize = digits::MANY + 1;
 
 // The entry line that stands at a place. Whoever walks over lines has had them checked, so nothing is checked here: a key is stepped over, and digits
@@ -47,6 +47,7 @@ pub fn next_entry(s: &[u8], at: usize) -> EntryAt
     ensures { λ r. ⌜ FoundEntry (now (s .entry)) (entryLine 1 term-most (drop at (now (s .entry)))) r ⌝ }
 {
     let Number::Is { value, next } = scan::number_in(s, at + KEY, 1, kinds::TERM_MOST, COLON) else {
+        // Never: a term stands there.
         return EntryAt::End;
     };
     let c = digits::words_of(s, next);
