@@ -7,3 +7,4 @@ pub mod RangeLaws
 pub mod AnswerLaws
 pub mod NoneEmpty
 pub mod JoinLaws
+pub mod PlaceLaws

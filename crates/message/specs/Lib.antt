@@ -8,3 +8,4 @@ pub mod Walk
 pub mod Answer
 pub mod Rows
 pub mod Write
+pub mod Place

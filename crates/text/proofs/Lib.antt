@@ -3,6 +3,7 @@ pub mod DecimalLaws
 pub mod LineLaws
 pub mod HexLaws
 pub mod RangeLaws
+pub mod PlaceLaws
 pub mod CaseLaws
 pub mod FoundLaws
 pub mod WroteLaws

@@ -6,3 +6,4 @@ pub mod Line
 pub mod Range
 pub mod Found
 pub mod Wrote
+pub mod Place
