@@ -3,3 +3,4 @@ pub mod Majorities
 pub mod Proposals
 pub mod Votes
 pub mod Limits
+pub mod Places

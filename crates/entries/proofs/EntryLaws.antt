@@ -9,8 +9,8 @@ use Rattle.text.proofs.CaseLaws.{number-is, number-bad}
 use Rattle.text.proofs.ReaderLaws.{got-rest, got-value, lost-never, onward-assoc, onward-got, onward-lost, onward-pure, onward-same, onward-sound}
 use Rattle.text.specs.Found.{FoundNumber}
 use Rattle.text.specs.Reader.{Got, got, lost, onward, pure}
-use Rattle.message.specs.Range.{entriesIn, entryIn}
-use Rattle.entries.specs.Found.{FoundEntries, leastAfter, termOf}
+use Rattle.message.specs.Range.{entriesIn, entryIn, leastAfter}
+use Rattle.entries.specs.Found.{FoundEntries, termOf}
 use Rattle.text.specs.declared.Number.{Number}
 use Rattle.text.specs.declared.Number.the-variants.{Is as Number·Is, Bad as Number·Bad}
 
@@ -66,29 +66,33 @@ walking-none s at count low high h = record { inside = h; most = omega arith; be
 
 module _ {s : List ℕ} {at count low high next read least : ℕ} (h : Walking s at count low high next read least) where
   -- No line is left.
-  pub walking-done : (read < count → ⊥) → FoundEntries s at count low high (record { read = read; next = next })
+  pub walking-done : (read < count → ⊥) → FoundEntries s at count low high (record { read = read; next = next; least = least })
   walking-done done =
       let all : read ≡ count = omega (arith, h .most, done) in
       record {
         inside = h .inside;
+        most = h .most;
         before = h .before;
         so-far = h .so-far;
+        least-is = h .least-is;
         stuck = λ less. absurd (less all);
         refused = λ less. absurd (less all);
       }
 
   module _ (more : read < count) (r : Number) (found : FoundNumber s (termOf (entryIn least high (drop next s))) r) where
     -- The next line is none.
-    pub walking-stuck : r ≡ Number·Bad → FoundEntries s at count low high (record { read = read; next = next })
+    pub walking-stuck : r ≡ Number·Bad → FoundEntries s at count low high (record { read = read; next = next; least = least })
     unfolding entriesIn
     walking-stuck e =
         let none : entryIn (leastAfter low (h .before)) high (drop next s) ≡ lost = rw (← h .least-is) (termOf-lost _ (number-bad s _ r found e)) in
         let left : count ≡ read + suc (count - read - 1) = omega arith in
         record {
           inside = h .inside;
+          most = h .most;
           before = h .before;
           so-far = h .so-far;
-          stuck = λ _. none;
+          least-is = h .least-is;
+          stuck = λ _. rw (h .least-is) none;
           refused = λ _. rw left (entriesIn-more read (suc (count - read - 1)) low high (drop at s) (h .so-far) ∙ onward-lost _ (onward-lost _ none));
         }
 

@@ -29,10 +29,12 @@ pub enum EntryAt {
     End,
 }
 
-// How many entry lines were read, and the place past them. Where there are fewer than were asked for, the next line begins there, and it is none.
+// How many entry lines were read, the place past them, and the least term that may follow. Where there are fewer than were asked for, the next line begins
+// there, and it is none.
 pub struct Entries {
     pub read: u32,
     pub next: usize,
+    pub least: u32,
 }
 
 // The bytes of the key `entry=`.
@@ -98,11 +100,11 @@ pub fn entries_in(s: &[u8], at: usize, count: u32, low: u32, high: u32) -> Entri
     let mut least = low;
     while read < count {
         let Number::Is { value, next: p } = entry_in(s, next, least, high) else {
-            return Entries { read, next };
+            return Entries { read, next, least };
         };
         next = p;
         least = value;
         read += 1;
     }
-    Entries { read, next }
+    Entries { read, next, least }
 }

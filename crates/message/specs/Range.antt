@@ -158,6 +158,11 @@ entriesIn (suc n) low high = do
   es ← entriesIn n (e .term) high
   pure (e ∷ es)
 
+-- The least term that may follow entries whose terms go from low on.
+unfoldable pub leastAfter : ℕ → List Entry → ℕ
+leastAfter low [] = low
+leastAfter low (e ∷ es) = leastAfter (e .term) es
+
 -- A whole message, by ranges.
 unfoldable pub messageIn : Reader Message
 messageIn = do
