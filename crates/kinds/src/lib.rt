@@ -4,7 +4,7 @@ ghost use mathlib.Core.Path.{_≡_};
 ghost use Prim.Native.Nat.{_<_};
 ghost use lib.Dec.{leb, ltb, eqb};
 ghost use Rattle.kinds.specs.Of.{hub, place, term};
-ghost use Rattle.kinds.specs.Packed.{half, packed};
+ghost use Rattle.kinds.specs.Packed.{half, places-room, placed, packed};
 ghost use Rattle.kinds.specs.Sizes.{limit, text-room};
 
 pub struct Hub(u32);
@@ -154,8 +154,12 @@ pub const OUT_OF_RANGE: u32 = 12;
 
 pub const NOTHING_NEW: u32 = 13;
 
+// ---- an outcome and what goes with it, in one number
+
 // The upper half of 64 bits is counted in these.
 const HALF: u64 = 4_294_967_296;
+// The place of a wrong byte is counted in these, in the lower half.
+const EIGHT_BITS: u64 = 256;
 
 // An outcome, and in the upper half how many bytes or places go with it.
 pub fn packed(outcome: u32, many: usize) -> u64
@@ -163,4 +167,12 @@ pub fn packed(outcome: u32, many: usize) -> u64
     ensures { λ r. ⌜ r ≡ packed outcome many ⌝ }
 {
     (outcome as u64) + (many as u64) * HALF
+}
+
+// An outcome, and in the lower half above it the place of the first wrong byte.
+pub fn placed(outcome: u32, place: usize) -> u64
+    requires { ⌜ place < places-room ⌝ }
+    ensures { λ r. ⌜ r ≡ placed outcome place ⌝ }
+{
+    (outcome as u64) + (place as u64) * EIGHT_BITS
 }

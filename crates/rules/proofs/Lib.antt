@@ -9,6 +9,7 @@ pub mod AppendLaws
 pub mod GatherLaws
 pub mod VoteLaws
 pub mod ReceiveLaws
+pub mod OutcomeLaws
 pub mod Theorems
 pub mod StepLaws
 pub mod Values

@@ -22,7 +22,7 @@ use Rattle.rules.specs.Outcome.{done}
 use Rattle.rules.specs.Events.{isLeader, isCandidate, len, withTerm, leads, started, asks, start, withEntry, proposeLeading, propose, send, restart}
 use Rattle.rules.specs.Receive.{Effect, ballotTold, vote, heardYes, fits, taken, heardAppend, heardEnd, rule, isStale, contradicts, followerAt, afterRaise, receive}
 use Rattle.rules.specs.Happens.{Occasion, to-start, to-propose, to-send, to-restart, to-receive, happens, legalAt, Meets}
-use Rattle.rules.specs.Theorems.{NextIsLegal, NothingFalls, MessageIsLegal, RefusalLeaves, RefusalIsSilent, ThirteenExactly, MajorityPlaceInLog, StartTakesEffect, ProposeTakesEffect, SendTakesEffect, RestartTakesEffect, HigherTermTakesEffect, FreshIsLegal, AsksHigher, Replies, EmptyHubSaysYes, OthersCompare, CandidateWritesBallot, AnswerAgrees}
+use Rattle.rules.specs.Theorems.{NextIsLegal, NothingFalls, MessageIsLegal, RefusalLeaves, RefusalIsSilent, CallComesToOutcome, FourIsUnread, ThirteenExactly, MajorityPlaceInLog, StartTakesEffect, ProposeTakesEffect, SendTakesEffect, RestartTakesEffect, HigherTermTakesEffect, FreshIsLegal, AsksHigher, Replies, EmptyHubSaysYes, OthersCompare, CandidateWritesBallot, AnswerAgrees}
 use Rattle.kinds.proofs.BoolLaws.{and-first, and-second, not-both, cond-either}
 use Rattle.state.proofs.LegalLaws.{legalLeader-is, legalState-lost}
 use Rattle.rules.proofs.LegalLaws.{isWho, legalMessage-is}
@@ -32,6 +32,7 @@ use Rattle.rules.proofs.Fair.{Fair}
 use Rattle.rules.proofs.EventsLaws.{start-fair, propose-fair, send-fair, restart-fair}
 use Rattle.rules.proofs.VoteLaws.{vote-either, vote-empty, vote-other}
 use Rattle.rules.proofs.ReceiveLaws.{receive-fair, receive-new, afterRaise-done}
+use Rattle.rules.proofs.OutcomeLaws.{happens-told, step-last}
 
 -- ---- every event
 
@@ -80,6 +81,14 @@ refusal-leaves w s o m = fair w s o m .leaves
 -- No refusal but outcome 6 writes.
 pub refusal-is-silent : RefusalIsSilent
 refusal-is-silent w s o m = fair w s o m .silent
+
+-- Every call comes to one of the outcomes.
+pub call-comes-to-outcome : CallComesToOutcome
+call-comes-to-outcome = step-last
+
+-- Outcome 4 is a text's that is no message.
+pub four-is-unread : FourIsUnread
+four-is-unread w s o = happens-told w s o .other
 
 -- ---- receive
 

@@ -15,7 +15,7 @@ use Rattle.message.specs.Legal.{legalMessage}
 use Rattle.state.specs.State.{Kept, leader, State, fresh}
 use Rattle.state.specs.Legal.{legalState}
 use Rattle.state.specs.Image.{image}
-use Rattle.rules.specs.Outcome.{done, goes, stale, nothing-new}
+use Rattle.rules.specs.Outcome.{done, goes, bad-message, stale, nothing-new}
 use Rattle.rules.specs.Majority.{confirmedBy, majorityPlace}
 use Rattle.rules.specs.Events.{isLeader, len, says, started}
 use Rattle.rules.specs.Receive.{Effect, idle, effect, vote, rule, isMisaddressed, isStale, contradicts, followerAt}
@@ -85,6 +85,10 @@ pub record Leaves (c : Call) (a : Answer) : Type 0 where
 abbrev pub CallLeavesLegal : Type 0
 CallLeavesLegal = (c : Call) → Leaves c (stepOf c)
 
+-- Every call comes to one of rule R32's outcomes.
+abbrev pub CallComesToOutcome : Type 0
+CallComesToOutcome = (c : Call) → stepOf c .outcome ≤ nothing-new
+
 -- The step does what happens, once the numbers, the state and the output are as they have to be and a message is read.
 abbrev pub StepIsWhatHappens : Type 0
 StepIsWhatHappens =
@@ -121,6 +125,10 @@ abbrev pub RefusalIsSilent : Type 0
 RefusalIsSilent =
     (w : Who) (s : State) (o : Occasion) → Meets w s o
     → (happens w s o .outcome ≡ done → ⊥) → (happens w s o .outcome ≡ stale → ⊥) → happens w s o .message ≡ none
+
+-- Outcome 4 is a text's that is no message: no event that a hub meets comes to it.
+abbrev pub FourIsUnread : Type 0
+FourIsUnread = (w : Who) (s : State) (o : Occasion) → happens w s o .outcome ≡ bad-message → ⊥
 
 -- ---- receive
 
