@@ -1,0 +1,4 @@
+pub mod SoughtLaws
+pub mod LiteralLaws
+pub mod GrowLaws
+pub mod NumberLaws
