@@ -37,7 +37,7 @@ extern "C" {
 
 /* ---- Version: 10,000 for each major version, 100 for each minor one, 1 for each patch. */
 
-#define KRITNAMON_VERSION 20000u  /* 2.0.0 */
+#define KRITNAMON_VERSION 30000u  /* 3.0.0 */
 
 /* The version of the library that was linked. Firmware compares it with KRITNAMON_VERSION, that of
  * the header, once when it starts. Proved: kritnamon_version in crates/kritnamon. */
@@ -73,7 +73,8 @@ uint32_t kritnamon_version(void);
  *   LOG_FULL, NO_TERM_LEFT      The group has served its night; a fresh one is to be started.
  *   NOT_ADDRESSED               Normal where all hubs hear all messages. Elsewhere it went astray.
  *   BAD_MESSAGE, CONTRADICTING  No hub of this group wrote this: it was damaged on its way, or is a
- *                               stranger's. To be dropped and counted.
+ *                               stranger's. To be dropped and counted. KRITNAMON_WRONG_AT tells where a
+ *                               BAD_MESSAGE is wrong.
  *   NOT_KNOWN, SHORT_OUTPUT, BAD_COMMAND, OUT_OF_RANGE
  *                               The caller's fault.
  *   BAD_STATE                   These are not the bytes of this hub as its last call left them, or
@@ -148,16 +149,29 @@ uint32_t kritnamon_write_command(uint32_t motor, uint32_t kind, int32_t duration
 #define KRITNAMON_COUNT  7u  /* of the entries */
 #define KRITNAMON_MESSAGE_NUMBERS 8u
 
-/* The two halves of an answer that has a second number beside its outcome. */
-#define KRITNAMON_OUTCOME(answer) ((uint32_t)((answer) & 0xffffffffu))
-#define KRITNAMON_SECOND(answer)  ((uint32_t)((answer) >> 32))
+/* An answer of 64 bits has up to three numbers, each with bits of its own: the outcome; the place of the
+ * first wrong byte of a text, which is 0 with every outcome but KRITNAMON_BAD_MESSAGE; and a second
+ * number, which each function below names. Proved: each comes back as it was put in (parts-back in
+ * crates/kinds; answer-parts in crates/promise, of a step). */
+#define KRITNAMON_OUTCOME(answer)  ((uint32_t)((answer) & 0xffu))
+#define KRITNAMON_WRONG_AT(answer) ((uint32_t)((answer) >> 8) & 0xffffffu)
+#define KRITNAMON_SECOND(answer)   ((uint32_t)((answer) >> 32))
+
+/* Where a message is wrong. A text begins a legal message if some legal message's text starts with it.
+ * KRITNAMON_WRONG_AT, an offset from 0, is that of the first byte with which the text so far begins
+ * none: the bytes before it are a good beginning, and with this one no message goes on so. A text that
+ * ends too soon is wrong at its length, one with more behind a whole message at the first byte behind
+ * it, one of more than KRITNAMON_TEXT_MOST bytes at KRITNAMON_TEXT_MOST, whatever it holds. So it is at
+ * most the text's length, and `text[KRITNAMON_WRONG_AT(answer)]` is the byte to look at if it is less.
+ * It tells what a tester has to look at, and a hub nothing: to firmware a damaged message is a
+ * damaged message. */
 
 /* Reads the message in `text` into the first eight of `numbers`; those behind them stay.
  * KRITNAMON_OUTCOME of what is returned is KRITNAMON_SHORT_OUTPUT if count is below 8, then
- * KRITNAMON_BAD_MESSAGE if the text is not that of a legal message; either leaves all numbers, with 0
- * as KRITNAMON_SECOND. Else it is KRITNAMON_DONE, and KRITNAMON_SECOND is the offset in `text` at
- * which the entry lines begin; they go to its end, and without entry lines the offset is the text's
- * length. Proved: kritnamon_read_message in crates/kritnamon. */
+ * KRITNAMON_BAD_MESSAGE, with KRITNAMON_WRONG_AT, if the text is not that of a legal message; either
+ * leaves all numbers, with 0 as KRITNAMON_SECOND. Else it is KRITNAMON_DONE, and KRITNAMON_SECOND is the
+ * offset in `text` at which the entry lines begin; they go to its end, and without entry lines the
+ * offset is the text's length. Proved: kritnamon_read_message in crates/kritnamon. */
 uint64_t kritnamon_read_message(const uint8_t *text, size_t length, uint32_t *numbers, size_t count);
 
 /* An entry as a row: its term (4, big-endian) and its command (16). */
@@ -171,8 +185,8 @@ uint64_t kritnamon_read_message(const uint8_t *text, size_t length, uint32_t *nu
  * KRITNAMON_OUTCOME of what is returned is KRITNAMON_SHORT_OUTPUT if out_length is below 65,536, then
  * KRITNAMON_BAD_MESSAGE if count is not 8, the type is none of the six, a number that the type does
  * not have is not 0, rows_length is not that of the rows, or the message is not legal; either leaves
- * all bytes, with 0 as KRITNAMON_SECOND. Else it is KRITNAMON_DONE, and KRITNAMON_SECOND is the text's
- * length. Proved: kritnamon_write_message in crates/kritnamon. */
+ * all bytes, with 0 as KRITNAMON_SECOND and as KRITNAMON_WRONG_AT. Else it is KRITNAMON_DONE, and
+ * KRITNAMON_SECOND is the text's length. Proved: kritnamon_write_message in crates/kritnamon. */
 uint64_t kritnamon_write_message(const uint32_t *numbers, size_t count, const uint8_t *rows,
                                  size_t rows_length, uint8_t *out, size_t out_length);
 
@@ -300,7 +314,8 @@ uint32_t kritnamon_reported(const uint8_t *state, size_t length, uint32_t place,
  *           look at it, and its length may be 0 (but the pointer is not null)
  *   out     at least KRITNAMON_TEXT_MOST bytes, whatever the event; a message is written at its start
  * KRITNAMON_OUTCOME of what is returned is one of the outcomes above, KRITNAMON_SECOND the length of the
- * message, or 0 if none was written. Every outcome but KRITNAMON_DONE leaves the state, and so does
+ * message, or 0 if none was written, KRITNAMON_WRONG_AT the place of the first wrong byte of a text that
+ * is refused with KRITNAMON_BAD_MESSAGE. Every outcome but KRITNAMON_DONE leaves the state, and so does
  * KRITNAMON_SEND. The bytes of `out` behind a message stay, and all of them without one. Of the refusals
  * KRITNAMON_STALE alone writes: a vote-no for a vote-request, an append-no for an append. They tell a
  * hub that fell behind the present term, and are to be sent as any other message.

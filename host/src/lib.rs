@@ -1,5 +1,5 @@
 //! One hub's step, and the reading and writing of its messages and commands, from the text of documents 01 and 02 alone (see docs/RULES.md).
-//! No input or output, no clock, no allocation, no state of its own: the same bytes in give the same bytes out.
+//! No input or output, no clock, no state of its own: the same bytes in give the same bytes out. Nothing but `place` allocates.
 
 #![forbid(unsafe_code)]
 #![warn(missing_docs)]
@@ -7,6 +7,7 @@
 pub mod command;
 pub mod kinds;
 pub mod message;
+pub mod place;
 pub mod state;
 pub mod step;
 

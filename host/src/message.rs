@@ -164,7 +164,7 @@ pub struct Reading<'a> {
     pub entries: &'a [u8],
 }
 
-/// Reads a message alone.
+/// Reads a message alone. Where a refused text is wrong, `place` finds.
 pub fn read(text: &[u8]) -> Reading<'_> {
     match read_legal(text) {
         Some((message, entries)) => Reading { message: Ok(message), entries },

@@ -48,7 +48,8 @@ impl Event {
 /// Events: `START`; `PROPOSE` the command in `input`; `SEND` to peer `a` from prev `b`; `RESTART`;
 /// `RECEIVE` the text in `input`. Arguments that an event does not use are not looked at.
 ///
-/// Every outcome but 0 leaves `state`. `out` changes only where the message is written, at its start.
+/// Every outcome but 0 leaves `state`. `out` changes only where the message is written, at its start. The place that goes with an outcome is
+/// `place::told`'s to find.
 #[allow(clippy::too_many_arguments)] // The call's form is given.
 pub fn step(
     n: u32,

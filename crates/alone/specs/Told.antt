@@ -7,8 +7,9 @@ use mathlib.Core.Path.{_≡_}
 use lib.Dec.{ltb}
 use lib.ListN.{length, drop}
 use Rattle.kinds.specs.Outcome.{done, short-output, bad-message}
-use Rattle.kinds.specs.Packed.{packed}
+use Rattle.kinds.specs.Packed.{placed, packed}
 use Rattle.message.specs.Message.{Message}
+use Rattle.message.specs.Place.{PlaceWith}
 use Rattle.message.specs.Text.{read, partFrom}
 use Rattle.numbers.specs.Numbers.{message-numbers, numbersOf}
 
@@ -31,7 +32,9 @@ tellsRead s numbers (some m) =
 unfoldable pub numbersTold : List ℕ → List ℕ → Told
 numbersTold s numbers = cond (ltb (length numbers) message-numbers) (tellsNot short-output numbers) (tellsRead s numbers (read s))
 
--- The outcome in the lower half of what is returned, where the entry lines begin in the upper one; and the numbers left.
-pub record Tells (t : Told) (r : ℕ) (numbers : List ℕ) : Type 0 where
-  pub returned : r ≡ packed (t .outcome) (t .entries)
+-- What is returned: the outcome, the place of the first wrong byte of the text s, and where the entry lines begin; and the numbers left.
+pub record Tells (t : Told) (s : List ℕ) (r : ℕ) (numbers : List ℕ) : Type 0 where
+  pub place : ℕ
+  pub place-is : PlaceWith (t .outcome) s place
+  pub returned : r ≡ packed (placed (t .outcome) place) (t .entries)
   pub left : numbers ≡ t .numbers

@@ -34,18 +34,20 @@ pub fn write_message(f: Fields, rows: &[u8], out: &mut [u8]) -> Write
 // ---- by numbers
 
 // Reads a message's text into the first eight lent numbers. The upper half of what is returned is where the entry lines begin in the text; they go
-// to its end. A refusal (fewer than eight numbers lent; not a legal message) leaves all numbers, and its upper half is 0.
+// to its end. A refusal (fewer than eight numbers lent; not a legal message, with the place of its first wrong byte) leaves all numbers, and its upper half is 0.
 pub fn read_numbers(text: &[u8], numbers: &mut [u32]) -> u64
-    ensures { λ r. ⌜ Tells (numbersTold (now (text .entry)) (now (numbers .entry))) r (now (numbers .exit)) ⌝ }
+    ensures { λ r. ⌜ Tells (numbersTold (now (text .entry)) (now (numbers .entry))) (now (text .entry)) r (now (numbers .exit)) ⌝ }
 {
     if numbers.len() < numbers::MANY {
         return kinds::SHORT_OUTPUT as u64;
     }
-    let Read::Message { fields, entries } = reader::read_message(text) else {
-        return kinds::BAD_MESSAGE as u64;
-    };
-    numbers::put_numbers(fields, numbers);
-    kinds::packed(kinds::DONE, entries)
+    match reader::read_message(text) {
+        Read::Message { fields, entries } => {
+            numbers::put_numbers(fields, numbers);
+            kinds::packed(kinds::DONE, entries)
+        }
+        Read::Refused { place } => kinds::placed(kinds::BAD_MESSAGE, place),
+    }
 }
 
 // Writes a message's text at the start of `out`, from its eight numbers and from a row for each entry. The upper half of what is returned is how

@@ -12,8 +12,8 @@ ghost use Rattle.kritnamon.specs.Version.{version};
 use kinds::Hub;
 use promise::Caller;
 
-// The version: 2.0.0.
-const VERSION: u32 = 20000;
+// The version: 3.0.0.
+const VERSION: u32 = 30000;
 
 // Reads a command's 16 bytes into the first five lent numbers: motor, kind, duration, a and b. A refusal (3: fewer than five numbers
 // lent; 10: not a legal command) leaves them all.
@@ -41,10 +41,11 @@ pub extern "C" fn kritnamon_write_command(
 
 // Reads a message's text into the first eight lent numbers: type, term, from, to, up to three of the type's own, and the count of its
 // entries. The upper half of what is returned is where the entry lines begin in the text; they go to its end. A refusal (3: fewer than
-// eight numbers lent; 4: not a legal message) leaves all numbers, and its upper half is 0.
+// eight numbers lent; 4: not a legal message) leaves all numbers, and its upper half is 0. Above the eight bits of outcome 4 stands the
+// place of the first wrong byte.
 #[no_mangle]
 pub extern "C" fn kritnamon_read_message(text: &[u8], numbers: &mut [u32]) -> u64
-    ensures { λ r. ⌜ Tells (numbersTold (now (text .entry)) (now (numbers .entry))) r (now (numbers .exit)) ⌝ }
+    ensures { λ r. ⌜ Tells (numbersTold (now (text .entry)) (now (numbers .entry))) (now (text .entry)) r (now (numbers .exit)) ⌝ }
 {
     alone::read_numbers(text, numbers)
 }
@@ -112,8 +113,8 @@ pub extern "C" fn kritnamon_reported(state: &[u8], place: u32, out: &mut [u8]) -
 // ---- the step
 
 // One step of hub `own` of n. Events: 1 start; 2 propose the command in `input`; 3 send to peer a from prev b; 4 restart; 5 receive the text in `input`.
-// The lower half of what is returned is the outcome, the upper half how many bytes of message stand at the start of `out`. All but outcome 0 leave the state;
-// output bytes past a message stay.
+// The lowest eight bits of what is returned are the outcome, the upper half how many bytes of message stand at the start of `out`; between them stands, with
+// outcome 4, the place of the text's first wrong byte. All but outcome 0 leave the state; output bytes past a message stay.
 #[no_mangle]
 pub extern "C" fn kritnamon_step(
     n: u32,
@@ -125,7 +126,7 @@ pub extern "C" fn kritnamon_step(
     input: &[u8],
     out: &mut [u8],
 ) -> u64
-    ensures { λ r. ⌜ Answers (stepOf (call n own event a b (now (state .entry)) (now (input .entry)) (now (out .entry)))) r (now (state .exit)) (now (out .exit)) ⌝ }
+    ensures { λ r. ⌜ Answers (stepOf (call n own event a b (now (state .entry)) (now (input .entry)) (now (out .entry)))) (now (input .entry)) r (now (state .exit)) (now (out .exit)) ⌝ }
 {
     let g = Caller {
         size: n,

@@ -1,17 +1,22 @@
 -- What the code's answers say of what a reader finds in a text s. Assumes nothing.
-use Prim.Native.Nat.{ℕ, _≤_}
+use Prim.Native.Nat.{ℕ}
 use mathlib.Core.List.{List}
 use mathlib.Core.Path.{_≡_}
-use lib.ListN.{length, drop}
-use Rattle.text.specs.Reader.{Got, got, lost}
+use lib.ListN.{drop}
+use mathlib.Core.Bool.{true, false}
+use Rattle.text.specs.Reader.{Got, lost}
 use Rattle.text.specs.Found.{Found}
 use Rattle.message.specs.Answer.{openingOf}
 use Rattle.message.specs.Fields.{MessageType, fields, unset}
-use Rattle.message.specs.Opening.{Opening}
-use Rattle.message.specs.Range.{fieldIn, linesIn}
-use Rattle.fields.specs.Table.{typeIs, fieldIs, fieldsMany, fieldAt}
+use Rattle.message.specs.Opening.{opening}
+use Rattle.message.specs.Range.{linesIn}
+use Rattle.begins.specs.Seek.{Sought}
+use Rattle.begins.specs.Lines.{seekLines}
+use Rattle.begins.specs.Entries.{seekOpening}
+use Rattle.seek.specs.Spotted.{Ends}
+use Rattle.fields.specs.Table.{typeIs}
 use Rattle.lines.specs.declared.FieldsAt.{FieldsAt}
-use Rattle.lines.specs.declared.FieldsAt.the-variants.{Are, Bad as FieldsAt·Bad}
+use Rattle.lines.specs.declared.FieldsAt.the-variants.{Are, Wrong}
 use Rattle.fields.specs.declared.Kind.{Kind}
 use Rattle.lines.specs.declared.KindAt.{KindAt}
 use Rattle.lines.specs.declared.KindAt.the-variants.{Is, Bad}
@@ -22,19 +27,24 @@ abbrev pub FoundKind : List ℕ → Got MessageType → KindAt → Type 0
 FoundKind s g (Is k n) = Found s g (typeIs k) n
 FoundKind s g Bad = g ≡ lost
 
--- A type and all numbers.
-abbrev pub FoundFields : List ℕ → Got Opening → FieldsAt → Type 0
-FoundFields s g (Are f n) = Found s g (openingOf f) n
-FoundFields s g FieldsAt·Bad = g ≡ lost
+-- The reader finds nothing, and p is the place where what is sought is wrong.
+pub record Missed {A : Type 0} (s : List ℕ) (g : Got A) (o : Sought A) (p : ℕ) : Type 0 where
+  pub refused : g ≡ lost
+  pub ends : Ends s o p
 
--- What is read from the first line on.
+-- A type and all numbers.
+abbrev pub FoundFields : List ℕ → FieldsAt → Type 0
+FoundFields s (Are f n) = Found s (opening s) (openingOf f) n
+FoundFields s (Wrong p) = Missed s (opening s) (seekOpening s) p
+
+-- What is read, and what is sought, from the first line of a type on.
 abbrev pub allLines : Kind → List ℕ → Got (List ℕ)
 allLines k = linesIn (typeIs k) (fields (typeIs k)) unset
 
--- The lines of a type from the place `at` on. Either all are there; or the line that begins at `next` is not the one that follows those read.
+abbrev pub allSought : Kind → List ℕ → Sought (List ℕ)
+allSought k = seekLines (typeIs k) (fields (typeIs k)) unset
+
+-- The lines of a type from the place `at` on: all are there, with these numbers; or one is none.
 pub record FoundLines (s : List ℕ) (at : ℕ) (k : Kind) (r : Lines) : Type 0 where
-  pub inside : r .next ≤ length s
-  pub so-far : allLines k (drop at s) ≡ linesIn (typeIs k) (drop (r .read) (fields (typeIs k))) (r .numbers) (drop (r .next) s)
-  pub all : r .read ≡ fieldsMany k → allLines k (drop at s) ≡ got (r .numbers) (drop (r .next) s)
-  pub stuck : (r .read ≡ fieldsMany k → ⊥) → fieldIn (typeIs k) (fieldIs (fieldAt k (r .read))) (r .numbers) (drop (r .next) s) ≡ lost
-  pub refused : (r .read ≡ fieldsMany k → ⊥) → allLines k (drop at s) ≡ lost
+  pub found : r .all ≡ true → Found s (allLines k (drop at s)) (r .numbers) (r .next)
+  pub missed : r .all ≡ false → Missed s (allLines k (drop at s)) (allSought k (drop at s)) (r .next)

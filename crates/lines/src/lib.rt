@@ -2,7 +2,7 @@
 ghost use Prim.Native.Nat.{_≤_};
 ghost use lib.ListN.{length, drop};
 ghost use Rattle.message.specs.Text.{key, typeAmong, types};
-ghost use Rattle.message.specs.Opening.{typeLine, opening};
+ghost use Rattle.message.specs.Opening.{typeLine};
 ghost use Rattle.fields.specs.Table.{fieldIs};
 ghost use Rattle.lines.specs.Found.{FoundKind, FoundFields, FoundLines};
 ghost use Rattle.text.specs.Found.{FoundNext, FoundNumber};
@@ -20,18 +20,18 @@ pub enum KindAt {
     Bad,
 }
 
-// The numbers of the lines that were read, each in the slot of its field; how many lines; and the place past them. Where there are fewer than the
-// type has, the next line begins there, and it is none.
-pub struct Lines {
-    pub numbers: [u32; 7],
-    pub read: usize,
-    pub next: usize,
+// Whether the lines of a type's fields are all there: then their numbers, each in the slot of its field, and the place past them; else the place of the
+// first wrong byte.
+struct Lines {
+    all: bool,
+    numbers: [u32; 7],
+    next: usize,
 }
 
-// The fields, and the place past their lines.
+// The fields, and the place past their lines; or that of the first wrong byte.
 pub enum FieldsAt {
     Are { fields: Fields, next: usize },
-    Bad,
+    Wrong { place: usize },
 }
 
 // ---- the line of the type
@@ -123,7 +123,7 @@ fn field_in(s: &[u8], at: usize, field: Field, lo: u32, hi: u32) -> Number
     scan::number_in(s, p, lo, hi, text::LF)
 }
 
-// The lines of a type's fields, in order, up to the first that is none.
+// The lines of a type's fields, in order. Only in the first that is none is a wrong byte looked for.
 fn lines_in(s: &[u8], at: usize, kind: Kind) -> Lines
     requires { ⌜ at ≤ length (now s) ⌝ }
     ensures { λ r. ⌜ FoundLines (now (s .entry)) at kind r ⌝ }
@@ -137,9 +137,9 @@ fn lines_in(s: &[u8], at: usize, kind: Kind) -> Lines
         let r = ranges::range_of(kind, field, &numbers);
         let Number::Is { value, next: p } = field_in(s, next, field, r.lo, r.hi) else {
             return Lines {
+                all: false,
                 numbers,
-                read,
-                next,
+                next: fieldplace::field_place(s, next, field, r.lo, r.hi),
             };
         };
         let slot = fields::slot_of(field);
@@ -149,26 +149,28 @@ fn lines_in(s: &[u8], at: usize, kind: Kind) -> Lines
         field = fields::after(kind, field);
     }
     Lines {
+        all: true,
         numbers,
-        read,
         next,
     }
 }
 
 // All lines before the entries.
 pub fn opening_in(s: &[u8]) -> FieldsAt
-    ensures { λ r. ⌜ FoundFields (now (s .entry)) (opening (now (s .entry))) r ⌝ }
+    ensures { λ r. ⌜ FoundFields (now (s .entry)) r ⌝ }
 {
     let KindAt::Is { kind, next: p } = type_in(s) else {
-        return FieldsAt::Bad;
+        return FieldsAt::Wrong {
+            place: typeplace::type_place(s),
+        };
     };
     let lines = lines_in(s, p, kind);
-    if lines.read != fields::fields_many(kind) {
-        return FieldsAt::Bad;
+    if lines.all {
+        let fields = fields::fields_of(kind, &lines.numbers);
+        return FieldsAt::Are {
+            fields,
+            next: lines.next,
+        };
     }
-    let fields = fields::fields_of(kind, &lines.numbers);
-    FieldsAt::Are {
-        fields,
-        next: lines.next,
-    }
+    FieldsAt::Wrong { place: lines.next }
 }

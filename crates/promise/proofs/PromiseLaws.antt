@@ -8,7 +8,10 @@ use mathlib.Core.List.{List, _++_}
 use mathlib.Core.Option.{none, some, Option}
 use lib.ListN.{length, take, drop, replicate}
 use lib.Seq.{sets}
+use Rattle.kinds.specs.Packed.{placed, packed}
 use Rattle.kinds.specs.Sizes.{Who, limit, row-size}
+use Rattle.kinds.proofs.PackedLaws.{Parts, parts-back, placed-none}
+use Rattle.kinds.proofs.SizesLaws.{room-placed}
 use Rattle.state.specs.declared.Head.{Head}
 use Rattle.state.specs.State.{State}
 use Rattle.state.specs.Legal.{legalState}
@@ -19,22 +22,36 @@ use Rattle.state.specs.Table.{rowsOf}
 use Rattle.state.proofs.LegalLaws.{Held, legal-held}
 use Rattle.state.proofs.ImageLaws.{image-head, legal-length, readState-image, readState-sound, stateIn-image}
 use Rattle.state.proofs.ImageWrites.{image-headed, image-put, image-clear}
-use Rattle.rules.specs.Outcome.{Next, done, goes}
-use Rattle.rules.specs.Step.{Call, Answer, over, written, answer}
+use Rattle.rules.specs.Outcome.{Next, done, goes, bad-message}
+use Rattle.rules.specs.Step.{Call, Answer, over, written, answer, stepOf}
+use Rattle.rules.proofs.Theorems.{call-comes-to-outcome}
 use Rattle.rules.proofs.LegalLaws.{IsWho, isWho}
-use Rattle.promise.specs.Promise.{Answers, Ready, leftBy, Gives, Quiet, isEffect, ruledBy, saidBy, Ruled}
+use Rattle.promise.specs.Promise.{Answers, Ready, leftBy, Gives, Hears, Quiet, isEffect, ruledBy, saidBy, Ruled}
 use Rattle.rules.specs.Receive.{Effect, idle, effect}
 use Rattle.message.specs.Message.{Message}
+use Rattle.message.proofs.PlaceLaws.{placeWith-one, placeWith-most, no-place}
 use Rattle.rules.proofs.Fair.{Fine, idles, does}
 
 -- ---- no second answer
 
 -- Two answers that both satisfy the promise of a call are equal: what is returned, the state's bytes, the output's.
 pub answers-unique :
-    {a : Answer} {r r′ : ℕ} {state state′ output output′ : List ℕ} → Answers a r state output → Answers a r′ state′ output′
+    {a : Answer} {input : List ℕ} {r r′ : ℕ} {state state′ output output′ : List ℕ} → Answers a input r state output → Answers a input r′ state′ output′
     → (r ≡ r′) × (state ≡ state′) × (output ≡ output′)
-answers-unique p q =
-    (p .returned ∙ sym (q .returned), p .state-left ∙ sym (q .state-left), p .output-left ∙ sym (q .output-left))
+answers-unique {a} {input} p q =
+    let same = placeWith-one (a .outcome) input (p .place-is) (q .place-is) in (
+      p .returned ∙ ap (λ (x : ℕ). packed (placed (a .outcome) x) (a .wrote)) same ∙ sym (q .returned),
+      p .state-left ∙ sym (q .state-left),
+      p .output-left ∙ sym (q .output-left),
+    )
+
+-- What a call returns comes apart into its outcome, the place and the bytes written, each as it was put in.
+pub answer-parts :
+    (c : Call) {r : ℕ} {state output : List ℕ} (p : Answers (stepOf c) (c .input) r state output) → Parts r (stepOf c .outcome) (p .place) (stepOf c .wrote)
+answer-parts c p =
+    let a = stepOf c in
+    rw (p .returned)
+    (parts-back (a .outcome) (p .place) (a .wrote) (omega (arith, call-comes-to-outcome c)) (omega (arith, placeWith-most (a .outcome) (c .input) (p .place-is), room-placed)))
 
 -- ---- bytes that are ready
 
@@ -126,23 +143,37 @@ pub done-quiet : {n : Next} (t : State) (l l′ : List ℕ) → n ≡ goes t non
 unfolding leftBy
 done-quiet t l l′ e h = rw e (record { returned = refl; silent = refl; state-left = h })
 
--- What an event gives is what the answer says.
-pub gives-answers :
-    (c : Call) (n : Next) {r : ℕ} {l out : List ℕ} → Gives n (c .state) (c .output) r l out → Answers (answer c n) r l out
-unfolding answer leftBy
-gives-answers c n g = record { returned = g .returned; state-left = g .state-left; output-left = g .output-left }
-
--- So for an event that writes nothing: the output stays.
-pub quiet-answers :
-    (c : Call) (n : Next) {r : ℕ} {l : List ℕ} → Quiet n (c .state) r l → Answers (answer c n) r l (c .output)
-unfolding answer leftBy written over
-quiet-answers c n q =
-    let w : length (written (n .message)) ≡ 0 = rw (q .silent) in
+-- What is given with an outcome that has no place, as what is heard.
+pub gives-hears :
+    (n : Next) → (n .outcome ≡ bad-message → ⊥) → {input l out : List ℕ} {r : ℕ} {l′ out′ : List ℕ} → Gives n l out r l′ out′
+    → Hears n input l out r l′ out′
+gives-hears n other g =
     record {
-      returned = omega (arith, q .returned);
-      state-left = q .state-left;
-      output-left = rw (q .silent);
+      place = 0;
+      place-is = no-place other;
+      returned = g .returned ∙ ap (λ (x : ℕ). packed x (length (written (n .message)))) (sym (placed-none (n .outcome)));
+      state-left = g .state-left;
+      output-left = g .output-left;
     }
+
+module _ (c : Call) (n : Next) where
+  -- What a received text gives is what the answer says.
+  pub hears-answers : {r : ℕ} {l out : List ℕ} → Hears n (c .input) (c .state) (c .output) r l out → Answers (answer c n) (c .input) r l out
+  unfolding answer leftBy
+  hears-answers g =
+      record { place = g .place; place-is = g .place-is; returned = g .returned; state-left = g .state-left; output-left = g .output-left }
+
+  module _ (other : n .outcome ≡ bad-message → ⊥) where
+    -- What an event gives is what the answer says.
+    pub gives-answers : {r : ℕ} {l out : List ℕ} → Gives n (c .state) (c .output) r l out → Answers (answer c n) (c .input) r l out
+    gives-answers g = hears-answers (gives-hears n other g)
+
+    -- So for an event that writes nothing: the output stays.
+    pub quiet-answers : {r : ℕ} {l : List ℕ} → Quiet n (c .state) r l → Answers (answer c n) (c .input) r l (c .output)
+    unfolding leftBy written over
+    quiet-answers q =
+        let w : length (written (n .message)) ≡ 0 = rw (q .silent) in
+        gives-answers (record { returned = omega (arith, q .returned, w); state-left = q .state-left; output-left = rw (q .silent) })
 
 -- ---- effects
 

@@ -10,6 +10,7 @@ use Rattle.kinds.specs.Sizes.{Who, isSize, isHub, term-most, limit}
 use Rattle.command.specs.Proposal.{isProposal}
 use Rattle.message.specs.Message.{Message, vote-yes, append, append-yes}
 use Rattle.message.specs.Legal.{legalBody}
+use Rattle.message.specs.Place.{PlaceWith}
 use Rattle.message.specs.Walk.{entriesFrom, Lie}
 use Rattle.state.specs.declared.Head.{Head}
 use Rattle.state.specs.Image.{image, stateIn, readState}
@@ -19,7 +20,7 @@ use Rattle.rules.specs.Receive.{Effect, idle, effect, contradicts}
 use Rattle.rules.specs.Step.{Call, Answer, over, written}
 use Rattle.promise.specs.declared.Caller.{Caller}
 use Rattle.kinds.specs.Role.{as-leader}
-use Rattle.kinds.specs.Packed.{packed}
+use Rattle.kinds.specs.Packed.{placed, packed}
 
 -- The group's size and the own number, as the code has them.
 abbrev pub whoIn : Caller → Who
@@ -40,9 +41,11 @@ call n own event a b state input output =
       output = output;
     }
 
--- One number is returned: the outcome in its lower half, the bytes written in its upper half. The lent bytes are as the answer has them.
-pub record Answers (a : Answer) (r : ℕ) (state output : List ℕ) : Type 0 where
-  pub returned : r ≡ packed (a .outcome) (a .wrote)
+-- One number is returned: the outcome, the place of the input's first wrong byte, and the bytes written. The lent bytes are as the answer has them.
+pub record Answers (a : Answer) (input : List ℕ) (r : ℕ) (state output : List ℕ) : Type 0 where
+  pub place : ℕ
+  pub place-is : PlaceWith (a .outcome) input place
+  pub returned : r ≡ packed (placed (a .outcome) place) (a .wrote)
   pub state-left : state ≡ a .state
   pub output-left : output ≡ a .output
 
@@ -83,6 +86,14 @@ leftBy l n = cond (eqb (n .outcome) done) (image (n .state)) l
 -- What an event that may write a message returns and leaves.
 pub record Gives (n : Next) (l out : List ℕ) (r : ℕ) (l′ out′ : List ℕ) : Type 0 where
   pub returned : r ≡ packed (n .outcome) (length (written (n .message)))
+  pub state-left : l′ ≡ leftBy l n
+  pub output-left : out′ ≡ over (written (n .message)) out
+
+-- What the event receive returns and leaves: the same, with the place of the first wrong byte of a text that is no message.
+pub record Hears (n : Next) (input l out : List ℕ) (r : ℕ) (l′ out′ : List ℕ) : Type 0 where
+  pub place : ℕ
+  pub place-is : PlaceWith (n .outcome) input place
+  pub returned : r ≡ packed (placed (n .outcome) place) (length (written (n .message)))
   pub state-left : l′ ≡ leftBy l n
   pub output-left : out′ ≡ over (written (n .message)) out
 

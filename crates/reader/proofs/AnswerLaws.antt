@@ -1,39 +1,47 @@
 -- The reader's answer: one law for each answer of the code. Assumes nothing.
 use Prim.Native.Nat.{_-_, _<_, _≤_, ℕ}
-use borrow.Author.Tests.{le-leb, lt-leb}
+use borrow.Author.Tests.{le-leb, lt-leb, eq-eqb, ne-eqb, eqb-true, eqb-false}
+use lib.Dec.{eqb}
 use lib.ListN.{drop, drop-of-length-le, length, length-drop}
 use lib.Seq.{drop-cons}
 use mathlib.Core.List.{List, [], append-nil}
 use mathlib.Core.Option.{Option, none, some}
-use mathlib.Core.Path.{_∙_, _≡_, ap, ap₂, refl, sym}
+use mathlib.Core.Path.{_∙_, _≡_, ap, ap₂, refl, subst, sym}
 use native.Mathlib.Omega.{arith}
-use Rattle.command.specs.Entry.{Entry, legalEntries}
+use Rattle.kinds.specs.Packed.{places-room}
 use Rattle.kinds.specs.Sizes.{text-room}
-use Rattle.lines.proofs.CaseLaws.{fields-are, fields-bad}
-use Rattle.reader.proofs.WholeLaws.{entriesAfter, messageIn-opening}
+use Rattle.kinds.proofs.SizesLaws.{room-placed}
+use Rattle.text.specs.Place.{IsPlace}
+use Rattle.text.specs.Reader.{got, lost, onward, pure, whole}
+use Rattle.text.proofs.ReaderLaws.{onward-got, onward-lost, onward-sound, whole-got}
+use Rattle.command.specs.Entry.{Entry, legalEntries}
+use Rattle.command.proofs.Tests.{by-test}
+use Rattle.message.specs.Answer.{manyIn, messageBy, openingOf}
+use Rattle.message.specs.Fields.{countIn, messageOf}
+use Rattle.message.specs.Message.{entriesOf, Message as Said}
+use Rattle.message.specs.Opening.{opening}
+use Rattle.message.specs.Place.{BeginsMessage, RefusedAt}
+use Rattle.message.specs.Range.{entriesIn, entryIn, highIn, leastAfter, lowIn, messageIn}
+use Rattle.message.specs.Text.{entries, entriesText, partFrom, partTo, read}
+use Rattle.message.specs.declared.Fields.{Fields}
+use Rattle.message.proofs.AnswerLaws.{entriesOf-said, fields-back, manyIn-count, messageBy-numbers}
+use Rattle.message.proofs.PlaceLaws.{no-place, placeWith-one, refused-within, with-place}
 use Rattle.message.proofs.RangeLaws.{entriesIn-is, kept, messageIn-whole}
 use Rattle.message.proofs.TextLaws.{entries-sound}
-use Rattle.message.specs.Answer.{manyIn, messageBy, openingOf}
-use Rattle.message.proofs.AnswerLaws.{entriesOf-said, fields-back, manyIn-count, messageBy-numbers}
-use Rattle.span.specs.Span.{spanOf}
-use Rattle.reader.specs.Answer.{outcomeOf, readAs, readOutcome, Reads}
-use Rattle.message.specs.Fields.{messageOf}
-use Rattle.lines.specs.Found.{FoundFields}
-use Rattle.message.specs.Message.{entriesOf}
-use Rattle.message.specs.Opening.{opening}
-use Rattle.message.specs.Range.{entriesIn, messageIn}
-use Rattle.message.specs.Text.{entries, entriesText, partFrom, partTo, read}
-use Rattle.text.proofs.ReaderLaws.{onward-got, onward-lost, onward-sound, whole-got}
-use Rattle.text.specs.Reader.{got, lost, onward, pure, whole}
-use Rattle.message.specs.declared.Fields.{Fields}
-use Rattle.lines.specs.declared.FieldsAt.{FieldsAt}
-use Rattle.span.specs.declared.Span.{Span}
+use Rattle.begins.specs.Seek.{placeOf, restOf}
+use Rattle.begins.specs.Entries.{seekEntries, seekEntry, seekMessage, seekOpening}
+use Rattle.begins.proofs.AgreeLaws.{entries-wrong, entry-wrong, least-open, message-more, opening-wrong}
+use Rattle.begins.proofs.MeaningLaws.{message-place}
+use Rattle.begins.proofs.MessageLaws.{entriesAfter, messageIn-opening, opening-open}
+use Rattle.seek.specs.Spotted.{Ends}
 use Rattle.entries.specs.Found.{FoundEntries}
 use Rattle.entries.specs.declared.Entries.{Entries}
-use Rattle.lines.specs.declared.FieldsAt.the-variants.{Are as FieldsAt·Are, Bad as FieldsAt·Bad}
+use Rattle.lines.specs.Found.{Missed}
+use Rattle.span.specs.Span.{spanOf}
+use Rattle.span.specs.declared.Span.{Span}
+use Rattle.reader.specs.Answer.{endedAt, Opened, outcomeOf, readAs, readOutcome, Reads}
 use Rattle.reader.specs.declared.Read.{Read}
 use Rattle.reader.specs.declared.Read.the-variants.{Message as Read·Message, Refused}
-use Rattle.message.specs.Message.{Message as Said}
 
 -- ---- the entries of what was read
 
@@ -43,100 +51,216 @@ entries-plain n low high s e =
     let w = onward-sound (sym (entriesIn-is n low high s) ∙ e) in
     w .first ∙ kept (legalEntries low high (w .value)) (w .value) (w .left) (w .next)
 
+-- What is not 0 is more.
+positive : (n : ℕ) → (n ≡ 0 → ⊥) → 0 < n
+positive n other = omega (arith, other)
+
 -- ---- the answer
 
-as-outcome : (s : List ℕ) (o : Option Said) → outcomeOf (readAs s o) ≡ readOutcome o
+-- The text is refused, with its place.
+refused-told : (s : List ℕ) {p : ℕ} → read s ≡ none → RefusedAt s p → Reads s (Refused p)
 unfolding readAs
-as-outcome s none = refl
-as-outcome s (some m) = refl
+refused-told s {p} e at = record { place = p; place-is = rw e (with-place at); answer = rw e; outcome = rw e }
 
--- An answer has its outcome.
-pub told : (s : List ℕ) (r : Read) → r ≡ readAs s (read s) → Reads s r
-told s r e = record { answer = e; outcome = ap outcomeOf e ∙ as-outcome s (read s) }
+-- It is a message's.
+message-told : (s : List ℕ) (m : Said) {r : Read} → read s ≡ some m → r ≡ readAs s 0 (some m) → Reads s r
+unfolding readAs
+message-told s m e is =
+    record {
+      place = 0;
+      place-is = rw e (no-place (λ four. omega (arith, four)));
+      answer = is ∙ ap (readAs s 0) (sym e);
+      outcome = ap outcomeOf is ∙ ap readOutcome (sym e);
+    }
 
 -- A text that is not too long is read by ranges.
 read-ranged : (s : List ℕ) → length s ≤ text-room → read s ≡ whole (messageIn s)
 unfolding read
 read-ranged s h = rw (le-leb (length s) text-room h) (messageIn-whole s)
 
-module _ (s : List ℕ) (room : ℕ) (e : room ≡ text-room) where
-  -- A longer one is refused.
-  pub read-long : room < length s → Refused ≡ readAs s (read s)
-  unfolding read readAs
-  read-long h = rw (lt-leb (length s) text-room (omega (arith, e, h)))
+-- A longer one is refused.
+pub read-long : (s : List ℕ) (room : ℕ) → room ≡ text-room → room < length s → Reads s (Refused room)
+unfolding read
+read-long s room e h =
+    let long : text-room < length s = omega (arith, e, h) in
+    refused-told s (rw (lt-leb (length s) text-room long)) (record { first-wrong = λ fits. absurd (omega (arith, fits, long)); too-long = λ _. e })
 
-  module _ (fits : length s ≤ room) (r : FieldsAt) (found : FoundFields s (opening s) r) where
-    ranged : read s ≡ whole (messageIn s)
-    ranged = read-ranged s (omega (arith, e, fits))
+module _ (s : List ℕ) (short : length s ≤ text-room) where
+  ranged : read s ≡ whole (messageIn s)
+  ranged = read-ranged s short
 
-    refused : messageIn s ≡ lost → Refused ≡ readAs s (read s)
-    unfolding readAs whole
-    refused h = rw (ranged, h)
+  -- Where what is sought ends is the place of a text that is refused.
+  sought-at : (p : ℕ) → p ≤ length s → restOf (seekMessage s) ≡ drop p s → RefusedAt s p
+  unfolding placeOf
+  sought-at p inside e =
+      let here : placeOf seekMessage s ≡ p = ap (λ (l : List ℕ). length s - length l) e ∙ omega (arith, inside, length-drop p s) in
+      record { first-wrong = λ _. subst (IsPlace BeginsMessage s) here (message-place s); too-long = λ long. absurd (omega (arith, short, long)) }
 
-    -- The opening is none.
-    pub read-no-opening : r ≡ FieldsAt·Bad → Refused ≡ readAs s (read s)
-    read-no-opening h = refused (messageIn-opening s ∙ onward-lost _ (fields-bad s _ r found h))
+  -- No message is read, and what is sought ends here.
+  refused : messageIn s ≡ lost → {p : ℕ} → p ≤ length s → restOf (seekMessage s) ≡ drop p s → Reads s (Refused p)
+  unfolding whole
+  refused h {p} inside rest = refused-told s (ranged ∙ rw h) (sought-at p inside rest)
 
-    module _ (f : Fields) (n : ℕ) (are : r ≡ FieldsAt·Are f n) where
-      -- It ends inside the text.
-      pub read-inside : n ≤ length s
-      read-inside = fields-are s _ r found f n are .inside
+  -- The opening is none.
+  pub read-no-opening : {p : ℕ} → Missed s (opening s) (seekOpening s) p → Reads s (Refused p)
+  read-no-opening missed =
+      refused (messageIn-opening s ∙ onward-lost _ (missed .refused)) (missed .ends .inside) (opening-wrong s (missed .refused) ∙ missed .ends .is)
 
-      from-opening : messageIn s ≡ onward (entriesAfter (openingOf f) (drop n s)) (λ es. pure (messageOf (openingOf f .type) (openingOf f .numbers) es))
-      from-opening = messageIn-opening s ∙ onward-got _ (fields-are s _ r found f n are .read)
+-- ---- the end of a message's lines
 
-      module _ (sp : Span) (same : sp ≡ spanOf (openingOf f)) (q : Entries) (found2 : FoundEntries s n (sp .count) (sp .low) (sp .high) q) where
-        -- The entries are not all there, or not legal.
-        pub read-no-entries : (q .read ≡ sp .count → ⊥) → Refused ≡ readAs s (read s)
-        unfolding entriesAfter
-        read-no-entries less = refused (from-opening ∙ onward-lost _ (rw (← same) (found2 .refused less)))
+module _ (f : Fields) (entries : ℕ) {many end : ℕ} where
+  -- More text follows.
+  pub ended-more : (end ≡ many → ⊥) → Refused end ≡ endedAt many f entries end
+  unfolding endedAt
+  ended-more other = rw (ne-eqb end many other)
 
-        module _ (all : q .read ≡ sp .count) where
-          abbrev es : List Entry
-          es = found2 .before
+  -- The text ends there.
+  pub ended-whole : end ≡ many → Read·Message f entries ≡ endedAt many f entries end
+  unfolding endedAt
+  ended-whole same = rw (eq-eqb end many same)
 
-          entered : entriesAfter (openingOf f) (drop n s) ≡ got es (drop (q .next) s)
-          unfolding entriesAfter
-          entered =
-              ap (λ (x : Span). entriesIn (x .count) (x .low) (x .high) (drop n s)) (sym same)
-              ∙ ap (λ (m : ℕ). entriesIn m (sp .low) (sp .high) (drop n s)) (sym all)
-              ∙ found2 .so-far
+-- ---- behind the opening
 
-          abbrev said : Said
-          said = messageBy f es
+module _ (s : List ℕ) (f : Fields) (n : ℕ) (o : Opened s f n) where
+  abbrev count : ℕ
+  count = countIn (openingOf f .type) (openingOf f .numbers)
 
-          message-is : messageIn s ≡ got said (drop (q .next) s)
-          message-is = from-opening ∙ onward-got _ entered ∙ ap (λ (m : Said). got m (drop (q .next) s)) (sym (messageBy-numbers f es))
+  abbrev low : ℕ
+  low = lowIn (openingOf f .type) (openingOf f .numbers)
 
-          -- More text follows.
-          pub read-more : (q .next ≡ length s → ⊥) → Refused ≡ readAs s (read s)
-          unfolding readAs whole
-          read-more other = rw (ranged, message-is, drop-cons s (q .next) 0 (omega (arith, other, found2 .inside)))
+  abbrev high : ℕ
+  high = highIn (openingOf f .type) (openingOf f .numbers)
 
-          -- The text ends there.
-          pub read-all : q .next ≡ length s → Read·Message f n ≡ readAs s (read s)
-          unfolding readAs partFrom entriesAfter spanOf
-          read-all ends =
-              let o = openingOf f in
-              let none-left : drop (q .next) s ≡ [] = drop-of-length-le s {i = q .next} (omega arith) in
-              let g : entriesIn (spanOf o .count) (spanOf o .low) (spanOf o .high) (drop n s) ≡ got es [] = entered ∙ ap (got es) none-left in
-              let so = entries-sound (spanOf o .count) (drop n s) (entries-plain (spanOf o .count) (spanOf o .low) (spanOf o .high) (drop n s) g) in
-              let is : read s ≡ some said = ranged ∙ whole-got (message-is ∙ ap (got said) none-left) in
-              let many : length es ≡ manyIn (f .body) = so .count ∙ sym (manyIn-count f) in
-              let held : entriesOf (said .body) ≡ es = entriesOf-said (f .body) es many in
-              let l : length (drop n s) ≡ length (entriesText es) = ap length (so .split) ∙ ap length (append-nil (entriesText es)) in
-              let p : n ≡ length s - length (entriesText (entriesOf (said .body))) = rw held (omega (arith, l, length-drop n s, read-inside)) in
-              ap₂ (λ (x : Fields) (m : ℕ). Read·Message x m) (sym (fields-back f es many)) p ∙ ap (readAs s) (sym is)
+  from-opening : messageIn s ≡ onward (entriesAfter (openingOf f) (drop n s)) (λ es. pure (messageOf (openingOf f .type) (openingOf f .numbers) es))
+  from-opening = messageIn-opening s ∙ onward-got _ (o .found .read)
+
+  -- Entries that are counted have some term.
+  pub terms-open : 0 < count → low ≤ high
+  terms-open = opening-open s (o .found .read)
+
+  module _ (es : List Entry) (end : ℕ) (inside : end ≤ length s) (entered : entriesAfter (openingOf f) (drop n s) ≡ got es (drop end s)) where
+    abbrev said : Said
+    said = messageBy f es
+
+    message-is : messageIn s ≡ got said (drop end s)
+    message-is = from-opening ∙ onward-got _ entered ∙ ap (λ (m : Said). got m (drop end s)) (sym (messageBy-numbers f es))
+
+    -- More text follows.
+    read-more : (end ≡ length s → ⊥) → Reads s (Refused end)
+    unfolding whole
+    read-more other =
+        refused-told s (ranged s (o .short) ∙ rw (message-is, drop-cons s end 0 (omega (arith, other, inside))))
+        (sought-at s (o .short) end inside (message-more s message-is))
+
+    -- The text ends there.
+    read-all : end ≡ length s → Reads s (Read·Message f n)
+    unfolding readAs partFrom entriesAfter
+    read-all ends =
+        let none-left : drop end s ≡ [] = drop-of-length-le s {i = end} (omega arith) in
+        let g : entriesIn count low high (drop n s) ≡ got es [] = entered ∙ ap (got es) none-left in
+        let so = entries-sound count (drop n s) (entries-plain count low high (drop n s) g) in
+        let is : read s ≡ some said = ranged s (o .short) ∙ whole-got (message-is ∙ ap (got said) none-left) in
+        let many : length es ≡ manyIn (f .body) = so .count ∙ sym (manyIn-count f) in
+        let held : entriesOf (said .body) ≡ es = entriesOf-said (f .body) es many in
+        let l : length (drop n s) ≡ length (entriesText es) = ap length (so .split) ∙ ap length (append-nil (entriesText es)) in
+        let p : n ≡ length s - length (entriesText (entriesOf (said .body))) = rw held (omega (arith, l, length-drop n s, o .found .inside)) in
+        message-told s said is (ap₂ (λ (x : Fields) (m : ℕ). Read·Message x m) (sym (fields-back f es many)) p)
+
+    -- Either way.
+    read-end : {r : Read} → r ≡ endedAt (length s) f n end → Reads s r
+    unfolding endedAt
+    read-end {r} is =
+        subst (Reads s) (sym is)
+        (by-test (eqb end (length s)) (λ e. rw e (read-all (eqb-true end (length s) e))) (λ e. rw e (read-more (eqb-false end (length s) e))))
+
+  module _ (sp : Span) (same : sp ≡ spanOf (openingOf f)) where
+    -- No entries are counted.
+    pub read-none : sp .count ≡ 0 → {r : Read} → r ≡ endedAt (length s) f n n → Reads s r
+    unfolding spanOf entriesAfter entriesIn
+    read-none zeroed =
+        let nothing : count ≡ 0 = sym (ap (λ (x : Span). x .count) same) ∙ zeroed in
+        read-end [] n (o .found .inside) (ap (λ (k : ℕ). entriesIn k low high (drop n s)) nothing)
+
+    module _ (q : Entries) (found : FoundEntries s n (sp .count) (sp .low) (sp .high) q) where
+      held : FoundEntries s n count low high q
+      unfolding spanOf
+      held = rw same at found
+
+      -- The next entry line has some term.
+      pub left-open : (sp .count ≡ 0 → ⊥) → q .least ≤ sp .high
+      unfolding spanOf
+      left-open some-count =
+          let counted : 0 < count = positive count (λ z. some-count (ap (λ (x : Span). x .count) same ∙ z)) in
+          let most : sp .high ≡ high = ap (λ (x : Span). x .high) same in
+          rw (most, held .least-is) (least-open (q .read) low high (drop n s) (terms-open counted) (held .so-far))
+
+      -- The entries are not all there, or not legal.
+      pub read-no-entries :
+          (q .read ≡ sp .count → ⊥) → {left p : ℕ} → left ≡ sp .count - q .read
+          → Ends s (seekEntries left (q .least) (sp .high) (drop (q .next) s)) p → Reads s (Refused p)
+      unfolding spanOf entriesAfter entriesIn leastAfter
+      read-no-entries less {left} {p} left-is ends =
+          let many : sp .count ≡ count = ap (λ (x : Span). x .count) same in
+          let top : sp .high ≡ high = ap (λ (x : Span). x .high) same in
+          let other : q .read ≡ count → ⊥ = λ e. less (e ∙ sym many) in
+          let fewer : q .read < count = omega (arith, other, held .most) in
+          let opened = terms-open (omega (arith, fewer)) in
+          let above : q .least ≤ high = rw (held .least-is) (least-open (q .read) low high (drop n s) opened (held .so-far)) in
+          let stuck : entryIn (leastAfter low (held .before)) high (drop (q .next) s) ≡ lost = rw (← held .least-is) (held .stuck other) in
+          let here : restOf (seekEntry (q .least) high (drop (q .next) s)) ≡ restOf (seekEntries left (q .least) (sp .high) (drop (q .next) s)) =
+          rw top (sym (entries-wrong 0 left (q .least) high (drop (q .next) s) above (omega (arith, fewer, left-is, many)) refl (held .stuck other))) in
+          refused s (o .short) (from-opening ∙ onward-lost _ (held .refused other)) (ends .inside)
+          (entry-wrong s (q .read) (o .found .read) fewer (held .so-far) stuck
+          ∙ ap (λ (x : ℕ). restOf (seekEntry x high (drop (q .next) s))) (sym (held .least-is))
+          ∙ here ∙ ends .is)
+
+      -- They are all there.
+      pub read-entries : q .read ≡ sp .count → {r : Read} → r ≡ endedAt (length s) f n (q .next) → Reads s r
+      unfolding spanOf entriesAfter
+      read-entries all =
+          let many : q .read ≡ count = all ∙ ap (λ (x : Span). x .count) same in
+          read-end (held .before) (q .next) (held .inside) (ap (λ (k : ℕ). entriesIn k low high (drop n s)) (sym many) ∙ held .so-far)
+
+-- ---- what a refusal says
+
+-- A refusal is no message.
+pub refused-never : {p : ℕ} {f : Fields} {n : ℕ} → Refused p ≡ Read·Message f n → ⊥
+refused-never e = let z : _≡_ {A = ℕ} 0 1 = cc in omega arith
+
+-- What a refusal says: no message, and its place.
+pub record Unread (input : List ℕ) (p : ℕ) : Type 0 where
+  pub none-read : read input ≡ none
+  pub at : RefusedAt input p
+
+-- The reader refused.
+pub unread-at : (input : List ℕ) {a : Read} {p : ℕ} → Reads input a → a ≡ Refused p → Unread input p
+unfolding readAs
+unread-at input {a} {p} told is = by (read input) refl (sym (told .answer) ∙ is)
+  where
+    by : (o : Option Said) → read input ≡ o → readAs input (told .place) o ≡ Refused p → Unread input p
+    by none q e =
+        let same : told .place ≡ p = cc in
+        record { none-read = q; at = subst (RefusedAt input) same (told .place-is .refused (ap readOutcome q)) }
+    by (some m) q e = absurd (refused-never (sym e))
+
+-- Two answers to a text are the same.
+pub reads-unique : {s : List ℕ} {r r′ : Read} → Reads s r → Reads s r′ → r ≡ r′
+reads-unique {s} p q =
+    p .answer ∙ ap (λ (x : ℕ). readAs s x (read s)) (placeWith-one (readOutcome (read s)) s (p .place-is) (q .place-is)) ∙ sym (q .answer)
+
+-- The place has its bits.
+pub place-small : (input : List ℕ) {p : ℕ} → Unread input p → p < places-room
+place-small input u = omega (arith, refused-within input (u .at) .1, room-placed)
 
 -- ---- the part that holds the entry lines
 
-module _ (s : List ℕ) (o : Option Said) (r : Read) (e : r ≡ readAs s o) where
+module _ (s : List ℕ) (place : ℕ) (o : Option Said) (r : Read) (e : r ≡ readAs s place o) where
   -- Of a message it goes from where its entry lines begin to the end of the text.
   pub part-message : (f : Fields) (n : ℕ) → r ≡ Read·Message f n → (n ≡ partFrom s o) × (length s ≡ partTo s o)
   unfolding readAs partFrom partTo
   part-message f n h = go o (sym h ∙ e)
     where
-      go : (x : Option Said) → Read·Message f n ≡ readAs s x → (n ≡ partFrom s x) × (length s ≡ partTo s x)
+      go : (x : Option Said) → Read·Message f n ≡ readAs s place x → (n ≡ partFrom s x) × (length s ≡ partTo s x)
       go none k = absurd (let z : _≡_ {A = ℕ} 0 1 = cc in omega arith)
       go (some m) k = (cc, refl)
 
@@ -150,10 +274,10 @@ module _ (s : List ℕ) (o : Option Said) (r : Read) (e : r ≡ readAs s o) wher
       go (some m) k = omega arith
 
   -- A refusal has the empty part at the start.
-  pub part-refused : r ≡ Refused → (0 ≡ partFrom s o) × (0 ≡ partTo s o)
+  pub part-refused : {p : ℕ} → r ≡ Refused p → (0 ≡ partFrom s o) × (0 ≡ partTo s o)
   unfolding readAs partFrom partTo
-  part-refused h = go o (sym h ∙ e)
+  part-refused {p} h = go o (sym h ∙ e)
     where
-      go : (x : Option Said) → Refused ≡ readAs s x → (0 ≡ partFrom s x) × (0 ≡ partTo s x)
+      go : (x : Option Said) → Refused p ≡ readAs s place x → (0 ≡ partFrom s x) × (0 ≡ partTo s x)
       go none k = (refl, refl)
       go (some m) k = absurd (let z : _≡_ {A = ℕ} 0 1 = cc in omega arith)

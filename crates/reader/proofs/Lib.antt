@@ -1,3 +1,2 @@
-pub mod WholeLaws
 pub mod AnswerLaws
 pub mod PartLaws

@@ -1,39 +1,61 @@
-// Reading messages from a lent text, where their entries stay, as rules R27 to R31 have it.
+// Reading messages from a lent text, where their entries stay, as rules R27 to R31 have it; of a text that is none, where it is wrong (rule R46).
 ghost use Prim.Native.Nat.{_≤_};
 ghost use lib.ListN.{length};
+ghost use mathlib.Core.Path.{_≡_};
 ghost use Rattle.message.specs.Text.{read, partFrom, partTo};
-ghost use Rattle.reader.specs.Answer.{Reads};
+ghost use Rattle.reader.specs.Answer.{endedAt, Opened, Reads};
 ghost use Rattle.reader.specs.Part.{IsPart, IsRest};
 use lines::FieldsAt;
 use message::Fields;
 
-// What reading a message finds: its fields, and where its entry lines begin. Refused is outcome 4.
+// What reading a message finds: its fields, and where its entry lines begin. Refused is outcome 4, with the place of the first wrong byte.
 pub enum Read {
     Message { fields: Fields, entries: usize },
-    Refused,
+    Refused { place: usize },
 }
 
-// Reads a message: its fields, and where its entry lines begin in the text. They go to the text's end.
+// A message whose lines end at a place; refused there, if more text follows.
+fn ended(s: &[u8], fields: Fields, entries: usize, end: usize) -> Read
+    ensures { λ r. ⌜ r ≡ endedAt (length (now (s .entry))) fields entries end ⌝ }
+{
+    if end != s.len() {
+        return Read::Refused { place: end };
+    }
+    Read::Message { fields, entries }
+}
+
+// Reads on behind the lines before the entries, which say these fields and end at `next`.
+fn read_entries(s: &[u8], fields: Fields, next: usize) -> Read
+    requires { ⌜ Opened (now s) fields next ⌝ }
+    ensures { λ r. ⌜ Reads (now (s .entry)) r ⌝ }
+{
+    let span = span::span_of(fields);
+    // Most messages have no entries: nothing is called for them.
+    if span.count == 0 {
+        return ended(s, fields, next, next);
+    }
+    let found = entries::entries_in(s, next, span.count, span.low, span.high);
+    if found.read != span.count {
+        let left = span.count - found.read;
+        return Read::Refused {
+            place: entryplace::entries_place(s, found.next, left, found.least, span.high),
+        };
+    }
+    ended(s, fields, next, found.next)
+}
+
+// Reads a message: its fields, and where its entry lines begin in the text. They go to the text's end. The place of a wrong byte is looked for only once
+// the text is refused.
 pub fn read_message(s: &[u8]) -> Read
     ensures { λ r. ⌜ Reads (now (s .entry)) r ⌝ }
 {
-    if kinds::text_room() < s.len() {
-        return Read::Refused;
+    let room = kinds::text_room();
+    if room < s.len() {
+        return Read::Refused { place: room };
     }
-    let FieldsAt::Are { fields, next } = lines::opening_in(s) else {
-        return Read::Refused;
-    };
-    let span = span::span_of(fields);
-    let found = entries::entries_in(s, next, span.count, span.low, span.high);
-    if found.read != span.count {
-        return Read::Refused;
-    }
-    if found.next != s.len() {
-        return Read::Refused;
-    }
-    Read::Message {
-        fields,
-        entries: next,
+    match lines::opening_in(s) {
+        FieldsAt::Are { fields, next } => read_entries(s, fields, next),
+        FieldsAt::Wrong { place } => Read::Refused { place },
     }
 }
 

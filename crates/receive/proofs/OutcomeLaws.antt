@@ -7,24 +7,25 @@ use mathlib.Core.List.{List}
 use mathlib.Core.Option.{Option, none, some}
 use lib.ListN.{length}
 use Rattle.kinds.specs.Sizes.{Who, text-room}
-use Rattle.kinds.specs.Event.{receive-number}
-use Rattle.kinds.specs.Packed.{half, packed}
+use Rattle.kinds.specs.Packed.{half, placed, packed}
 use Rattle.kinds.proofs.PackedLaws.{packed-alone}
 use Rattle.kinds.proofs.SizesLaws.{room-small}
 use Rattle.message.specs.Message.{Message}
 use Rattle.message.specs.Text.{read}
 use Rattle.message.specs.declared.Fields.{Fields}
+use Rattle.message.proofs.PlaceLaws.{with-place}
 use Rattle.message.proofs.ReadLaws.{text-most}
 use Rattle.state.specs.State.{State}
 use Rattle.state.specs.Image.{stateIn}
-use Rattle.rules.specs.Outcome.{done, bad-message, not-addressed, stale}
+use Rattle.rules.specs.Outcome.{bad-message, not-addressed, stale}
 use Rattle.rules.specs.Receive.{isMisaddressed, isStale, staleReply, receive}
-use Rattle.rules.specs.Step.{Call, over, written, refusal, receiving, stepOf}
+use Rattle.rules.specs.Step.{over, written}
 use Rattle.rules.proofs.ReceiveLaws.{stale-term, receive-fair}
+use Rattle.rules.proofs.OutcomeLaws.{receive-told}
 use Rattle.rules.specs.Theorems.{SaysLegal}
-use Rattle.promise.specs.Promise.{Answers, leftBy, Gives}
-use Rattle.promise.proofs.PromiseLaws.{ready-legal, ready-who, gives-answers}
-use Rattle.promise.specs.Gate.{gate}
+use Rattle.promise.specs.Promise.{leftBy, Hears}
+use Rattle.promise.proofs.PromiseLaws.{ready-legal, ready-who, gives-hears}
+use Rattle.reader.proofs.AnswerLaws.{Unread}
 use Rattle.say.specs.Said.{Answering}
 use Rattle.refuse.specs.Received.{bodyIn, messageHeard}
 use Rattle.obey.specs.Obeyed.{Receives}
@@ -59,10 +60,13 @@ module _ (w : Who) (l : List ℕ) (f : Fields) (s out : List ℕ) (g : Receives 
 
 -- ---- the whole event
 
--- A text that is no message.
-pub unread-gives : (w : Who) (l input out : List ℕ) → read input ≡ none → Gives (heard w (stateIn l) (read input)) l out bad-message l out
+-- A text that is no message, with the place of its first wrong byte.
+pub unread-hears :
+    (w : Who) (l input out : List ℕ) {p r : ℕ} → Unread input p → r ≡ placed bad-message p → Hears (heard w (stateIn l) (read input)) input l out r l out
 unfolding heard leftBy written over
-unread-gives w l input out e = rw e (record { returned = sym (packed-alone bad-message); state-left = refl; output-left = refl })
+unread-hears w l input out {p} u r= =
+    rw (u .none-read)
+    (record { place = p; place-is = with-place (u .at); returned = r= ∙ sym (packed-alone (placed bad-message p)); state-left = refl; output-left = refl })
 
 -- A message that a hub writes fits an output.
 written-small : (w : Who) (next : State) (m : Option Message) → ((x : Message) → m ≡ some x → SaysLegal w next x) → length (written m) ≤ text-room
@@ -80,9 +84,11 @@ module _ (w : Who) (l : List ℕ) (f : Fields) (lines out : List ℕ) (g : Recei
         omega (arith, c .bytes, room-small, written-small w (receive w (stateIn l) m .state) (receive w (stateIn l) m .message) (fair .sound .writes))
 
     -- It is what a text of the message comes to.
-    pub read-gives :
+    pub read-hears :
         (input : List ℕ) {n : ℕ} → read input ≡ some (messageHeard f lines) → n ≡ packed (r .outcome) (r .bytes)
-        → Gives (heard w (stateIn l) (read input)) l out n l′ out′
+        → Hears (heard w (stateIn l) (read input)) input l out n l′ out′
     unfolding heard
-    read-gives input is n= =
-        rw is (record { returned = n= ∙ rw (c .outcome, c .bytes); state-left = c .state-left; output-left = c .output-left })
+    read-hears input is n= =
+        rw is
+        (gives-hears (receive w (stateIn l) (messageHeard f lines)) (receive-told w (stateIn l) (messageHeard f lines) .other)
+        (record { returned = n= ∙ rw (c .outcome, c .bytes); state-left = c .state-left; output-left = c .output-left }))

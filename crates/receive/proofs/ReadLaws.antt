@@ -1,6 +1,5 @@
 -- Laws of a text that was read: which message the code's fields and the entry lines stand for. Assumes nothing.
 use Prim.Native.Nat.{ℕ}
-use native.Mathlib.Omega.{arith}
 use mathlib.Core.Path.{_≡_, refl, sym, _∙_, ap, subst}
 use mathlib.Core.Bool.{true}
 use mathlib.Core.List.{List}
@@ -16,10 +15,11 @@ use Rattle.message.specs.declared.Fields.{Fields}
 use Rattle.message.proofs.AnswerLaws.{manyIn-entries, message-back}
 use Rattle.message.proofs.ReadLaws.{read-sound}
 use Rattle.entries.proofs.WalkLaws.{part-follow}
-use Rattle.reader.specs.Answer.{readAs}
+use Rattle.reader.specs.Answer.{readAs, Reads}
 use Rattle.reader.specs.Part.{IsRest}
-use Rattle.reader.specs.declared.Read.the-variants.{Message as Read·Message, Refused}
-use Rattle.reader.proofs.AnswerLaws.{part-within}
+use Rattle.reader.specs.declared.Read.{Read}
+use Rattle.reader.specs.declared.Read.the-variants.{Message as Read·Message}
+use Rattle.reader.proofs.AnswerLaws.{part-within, refused-never}
 use Rattle.reader.proofs.PartLaws.{rest-bytes}
 use Rattle.refuse.specs.Received.{messageHeard}
 
@@ -44,18 +44,14 @@ message-stands input m h =
       legal = ap legalMessage back ∙ read-sound input m h .legal;
     }
 
--- A refusal is no message.
-refused-never : {f : Fields} {n : ℕ} → Refused ≡ Read·Message f n → ⊥
-refused-never e = let z : _≡_ {A = ℕ} 0 1 = cc in omega arith
-
 -- The reader found fields, and where the entry lines begin.
 fields-stand :
-    (input : List ℕ) (f : Fields) (at : ℕ) → readAs input (read input) ≡ Read·Message f at → {lines : List ℕ} → lines ≡ drop at input
+    (input : List ℕ) (p : ℕ) (f : Fields) (at : ℕ) → readAs input p (read input) ≡ Read·Message f at → {lines : List ℕ} → lines ≡ drop at input
     → Stands input f lines
 unfolding readAs
-fields-stand input f at e {lines} is = by (read input) refl e
+fields-stand input p f at e {lines} is = by (read input) refl e
   where
-    by : (o : Option Message) → read input ≡ o → readAs input o ≡ Read·Message f at → Stands input f lines
+    by : (o : Option Message) → read input ≡ o → readAs input p o ≡ Read·Message f at → Stands input f lines
     by none q e = absurd (refused-never e)
     by (some m) q e =
         let f= : fieldsOf m ≡ f = cc in
@@ -65,15 +61,6 @@ fields-stand input f at e {lines} is = by (read input) refl e
 
 -- The reader's part from there on holds the entry lines.
 pub lines-stand :
-    (s r : RefT (List ℕ)) (f : Fields) (at : ℕ) → readAs (s .now) (read (s .now)) ≡ Read·Message f at → IsRest s at r → Stands (s .now) f (r .now)
-lines-stand s r f at e rest =
-    fields-stand (s .now) f at e (rest-bytes s r at (part-within (s .now) (read (s .now)) (Read·Message f at) (sym e) f at refl) rest)
-
--- The reader refused.
-pub none-read : (input : List ℕ) → readAs input (read input) ≡ Refused → read input ≡ none
-unfolding readAs
-none-read input e = by (read input) e
-  where
-    by : (o : Option Message) → readAs input o ≡ Refused → o ≡ none
-    by none e = refl
-    by (some m) e = absurd (refused-never (sym e))
+    (s r : RefT (List ℕ)) (f : Fields) (at : ℕ) {a : Read} → Reads (s .now) a → a ≡ Read·Message f at → IsRest s at r → Stands (s .now) f (r .now)
+lines-stand s r f at {a} told is rest =
+    fields-stand (s .now) (told .place) f at (sym (told .answer) ∙ is) (rest-bytes s r at (part-within (s .now) (told .place) (read (s .now)) a (told .answer) f at is) rest)

@@ -7,7 +7,7 @@ ghost use Rattle.kinds.specs.Sizes.{text-room};
 ghost use Rattle.message.specs.Text.{read};
 ghost use Rattle.state.specs.Image.{stateIn};
 ghost use Rattle.rules.specs.Receive.{staleReply, receive};
-ghost use Rattle.promise.specs.Promise.{whoIn, Ready, Gives};
+ghost use Rattle.promise.specs.Promise.{whoIn, Ready, Hears};
 ghost use Rattle.say.specs.Said.{Answering};
 ghost use Rattle.refuse.specs.Received.{bodyIn, messageHeard};
 ghost use Rattle.obey.specs.Obeyed.{Receives};
@@ -69,14 +69,16 @@ fn receive_message(g: Caller, state: &mut [u8], f: Fields, lines: &[u8], out: &m
     fresh::receive_fresh(g, h, state, f, lines, out)
 }
 
-// Receive: the outcome in the lower half of what is returned, the bytes written in its upper half. A text that is no legal message is refused with 4.
+// Receive: the outcome and the bytes written. A text that is no legal message is refused with 4, and with the place of its first wrong byte.
 pub fn receive_at(g: Caller, state: &mut [u8], input: &[u8], out: &mut [u8]) -> u64
     requires { ⌜ Ready (whoIn g) (now state) × (text-room ≤ length (now out)) ⌝ }
-    ensures { λ r. ⌜ Gives (heard (whoIn g) (stateIn (now (state .entry))) (read (now (input .entry)))) (now (state .entry)) (now (out .entry)) r (now (state .exit)) (now (out .exit)) ⌝ }
+    ensures { λ r. ⌜ Hears (heard (whoIn g) (stateIn (now (state .entry))) (read (now (input .entry)))) (now (input .entry)) (now (state .entry)) (now (out .entry)) r (now (state .exit)) (now (out .exit)) ⌝ }
 {
-    let Read::Message { fields, entries } = reader::read_message(input) else {
-        return kinds::BAD_MESSAGE as u64;
-    };
-    let told = receive_message(g, state, fields, reader::lines_of(input, entries), out);
-    kinds::packed(told.outcome, told.bytes)
+    match reader::read_message(input) {
+        Read::Message { fields, entries } => {
+            let told = receive_message(g, state, fields, reader::lines_of(input, entries), out);
+            kinds::packed(told.outcome, told.bytes)
+        }
+        Read::Refused { place } => kinds::placed(kinds::BAD_MESSAGE, place),
+    }
 }

@@ -15,14 +15,16 @@ use Rattle.message.specs.Text.{read}
 use Rattle.state.specs.State.{Kept, State}
 use Rattle.state.specs.Image.{image, keptIn, stateIn, readKept}
 use Rattle.state.specs.Check.{isSome}
-use Rattle.kinds.proofs.BoolLaws.{and-first, and-second}
-use Rattle.rules.specs.Outcome.{done, not-known, bad-state, short-output}
+use Rattle.kinds.proofs.BoolLaws.{and-first, and-second, cond-either}
+use Rattle.message.proofs.PlaceLaws.{no-place}
+use Rattle.rules.proofs.OutcomeLaws.{start-told, propose-told, send-told, restart-told}
+use Rattle.rules.specs.Outcome.{done, not-known, bad-state, short-output, bad-message}
 use Rattle.rules.specs.Events.{start, propose, send, restart}
 use Rattle.rules.specs.Step.{Call, Event, start-event, propose-event, send-event, restart-event, receive-event, eventOf, refusal, receiving, acting, keptAlone, seenBy, atState, atEvent, stepOf, written, over}
-use Rattle.promise.specs.Promise.{Answers, Ready, Gives, Quiet, leftBy}
+use Rattle.promise.specs.Promise.{Answers, Ready, Gives, Hears, Quiet, leftBy}
 use Rattle.promise.specs.Gate.{isKnown, isFit, gate}
 use Rattle.promise.proofs.GateLaws.{none-when, readState-some, readKept-some, fit-restart, fit-other}
-use Rattle.promise.proofs.PromiseLaws.{done-quiet, gives-answers, quiet-answers}
+use Rattle.promise.proofs.PromiseLaws.{done-quiet, hears-answers, gives-answers, quiet-answers}
 use Rattle.receive.specs.Heard.{heard}
 use Rattle.kinds.specs.Event.{receive-number}
 use Rattle.rules.specs.Receive.{receive}
@@ -83,9 +85,21 @@ module _ (c : Call) where
   gateOf = gate (c .who) (c .event) (c .state) (c .output)
 
   -- A call that is refused leaves every byte.
-  refusal-answers : (k : ℕ) → stepOf c ≡ refusal c k → Answers (stepOf c) k (c .state) (c .output)
+  refusal-answers : (k : ℕ) → (k ≡ bad-message → ⊥) → stepOf c ≡ refusal c k → Answers (stepOf c) (c .input) k (c .state) (c .output)
   unfolding refusal
-  refusal-answers k e = rw e (record { returned = omega arith; state-left = refl; output-left = refl })
+  refusal-answers k other e =
+      rw e (record { place = 0; place-is = no-place other; returned = omega arith; state-left = refl; output-left = refl })
+
+  -- The gate has no outcome 4.
+  gate-other : gateOf ≡ bad-message → ⊥
+  unfolding gate
+  gate-other =
+      let other : ℕ → Type 0 = λ k. k ≡ bad-message → ⊥ in
+      cond-either other (isKnown (c .who) (c .event))
+      (λ a. cond-either other (isFit (c .who) (c .event) (c .state))
+      (λ b. cond-either other (ltb (length (c .output)) text-room) (λ d e. omega (arith, e)) (λ d e. omega (arith, e)))
+      (λ b e. omega (arith, e)))
+      (λ a e. omega (arith, e))
 
   known-parts : isKnown (c .who) (c .event) ≡ true → (isSize (c .who .size) ≡ true) × (isHub (c .who .size) (c .who .own) ≡ true) × (between 1 5 (c .event) ≡ true)
   unfolding isKnown
@@ -130,26 +144,26 @@ module _ (c : Call) where
   gate-passed h = passed (isKnown (c .who) (c .event)) (isFit (c .who) (c .event) (c .state)) (ltb (length (c .output)) text-room) h
 
   -- The gate refuses: every byte stays.
-  pub step-refused : (k : ℕ) → k ≡ gateOf → (k ≡ done → ⊥) → Answers (stepOf c) k (c .state) (c .output)
+  pub step-refused : (k : ℕ) → k ≡ gateOf → (k ≡ done → ⊥) → Answers (stepOf c) (c .input) k (c .state) (c .output)
   unfolding gate atState isSome
   step-refused k e h = known (isKnown (c .who) (c .event)) refl
     where
       room : (b : Bool) (o : Option State) → isSome o ≡ true → ltb (length (c .output)) text-room ≡ b → (a : isKnown (c .who) (c .event) ≡ true) → isFit (c .who) (c .event) (c .state) ≡ true
-          → (let e = listed (c .who) (c .state) (c .event) (known-parts a .2) in seenBy (c .who) (e .event) (c .state) ≡ o) → Answers (stepOf c) k (c .state) (c .output)
+          → (let e = listed (c .who) (c .state) (c .event) (known-parts a .2) in seenBy (c .who) (e .event) (c .state) ≡ o) → Answers (stepOf c) (c .input) k (c .state) (c .output)
       room b none f d a fit is = absurd (let z : _≡_ {A = ℕ} 0 1 = cc in omega arith)
-      room true (some s) f d a fit is = refusal-answers k (stepped a ∙ rw (is, d, e, a, fit, d))
+      room true (some s) f d a fit is = refusal-answers k (λ four. gate-other (sym e ∙ four)) (stepped a ∙ rw (is, d, e, a, fit, d))
       room false (some s) f d a fit is = absurd (h (e ∙ rw (a, fit, d)))
 
-      fit : (b : Bool) → isFit (c .who) (c .event) (c .state) ≡ b → isKnown (c .who) (c .event) ≡ true → Answers (stepOf c) k (c .state) (c .output)
+      fit : (b : Bool) → isFit (c .who) (c .event) (c .state) ≡ b → isKnown (c .who) (c .event) ≡ true → Answers (stepOf c) (c .input) k (c .state) (c .output)
       fit false b a =
           let l = listed (c .who) (c .state) (c .event) (known-parts a .2) in
-          refusal-answers k (stepped a ∙ rw (none-when (seenBy (c .who) (l .event) (c .state)) (sym (l .fit) ∙ b), e, a, b))
+          refusal-answers k (λ four. gate-other (sym e ∙ four)) (stepped a ∙ rw (none-when (seenBy (c .who) (l .event) (c .state)) (sym (l .fit) ∙ b), e, a, b))
       fit true b a =
           let l = listed (c .who) (c .state) (c .event) (known-parts a .2) in
           room (ltb (length (c .output)) text-room) (seenBy (c .who) (l .event) (c .state)) (sym (l .fit) ∙ b) refl a b refl
 
-      known : (b : Bool) → isKnown (c .who) (c .event) ≡ b → Answers (stepOf c) k (c .state) (c .output)
-      known false a = refusal-answers k (unknown-step a ∙ rw (e, a))
+      known : (b : Bool) → isKnown (c .who) (c .event) ≡ b → Answers (stepOf c) (c .input) k (c .state) (c .output)
+      known false a = refusal-answers k (λ four. gate-other (sym e ∙ four)) (unknown-step a ∙ rw (e, a))
       known true a = fit (isFit (c .who) (c .event) (c .state)) refl a
 
   -- The gate is open.
@@ -185,34 +199,35 @@ module _ (c : Call) where
     acts e s event sees = rw (event, open-parts .0, open-parts .1, sees, gate-passed h .2)
 
     -- Start.
-    pub step-start : c .event ≡ 1 → {r : ℕ} {l out : List ℕ} → Gives (start (c .who) (stateIn (c .state))) (c .state) (c .output) r l out → Answers (stepOf c) r l out
+    pub step-start : c .event ≡ 1 → {r : ℕ} {l out : List ℕ} → Gives (start (c .who) (stateIn (c .state))) (c .state) (c .output) r l out → Answers (stepOf c) (c .input) r l out
     unfolding eventOf seenBy acting
     step-start e g =
         let ready = step-ready (λ f. omega arith) in
-        rw (acts start-event (stateIn (c .state)) (rw e) (ready .held)) (gives-answers c (start (c .who) (stateIn (c .state))) g)
+        rw (acts start-event (stateIn (c .state)) (rw e) (ready .held)) (gives-answers c (start (c .who) (stateIn (c .state))) (start-told (c .who) (stateIn (c .state)) .other) g)
 
     -- Propose.
-    pub step-propose : c .event ≡ 2 → {r : ℕ} {l : List ℕ} → Quiet (propose (c .who) (stateIn (c .state)) (readProposal (c .input))) (c .state) r l → Answers (stepOf c) r l (c .output)
+    pub step-propose : c .event ≡ 2 → {r : ℕ} {l : List ℕ} → Quiet (propose (c .who) (stateIn (c .state)) (readProposal (c .input))) (c .state) r l → Answers (stepOf c) (c .input) r l (c .output)
     unfolding eventOf seenBy acting
     step-propose e q =
         let ready = step-ready (λ f. omega arith) in
-        rw (acts propose-event (stateIn (c .state)) (rw e) (ready .held)) (quiet-answers c (propose (c .who) (stateIn (c .state)) (readProposal (c .input))) q)
+        rw (acts propose-event (stateIn (c .state)) (rw e) (ready .held)) (quiet-answers c (propose (c .who) (stateIn (c .state)) (readProposal (c .input)))
+        (propose-told (c .who) (stateIn (c .state) .kept) (stateIn (c .state) .lost) (readProposal (c .input)) .other) q)
 
     -- Send.
-    pub step-send : c .event ≡ 3 → {r : ℕ} {l out : List ℕ} → Gives (send (c .who) (stateIn (c .state)) (c .a) (c .b)) (c .state) (c .output) r l out → Answers (stepOf c) r l out
+    pub step-send : c .event ≡ 3 → {r : ℕ} {l out : List ℕ} → Gives (send (c .who) (stateIn (c .state)) (c .a) (c .b)) (c .state) (c .output) r l out → Answers (stepOf c) (c .input) r l out
     unfolding eventOf seenBy acting
     step-send e g =
         let ready = step-ready (λ f. omega arith) in
-        rw (acts send-event (stateIn (c .state)) (rw e) (ready .held)) (gives-answers c (send (c .who) (stateIn (c .state)) (c .a) (c .b)) g)
+        rw (acts send-event (stateIn (c .state)) (rw e) (ready .held)) (gives-answers c (send (c .who) (stateIn (c .state)) (c .a) (c .b)) (send-told (c .who) (stateIn (c .state)) (c .a) (c .b) .other) g)
 
     -- Restart.
-    pub step-restart : c .event ≡ 4 → {l : List ℕ} → l ≡ image (restart (keptIn (c .state)) .state) → Answers (stepOf c) done l (c .output)
+    pub step-restart : c .event ≡ 4 → {l : List ℕ} → l ≡ image (restart (keptIn (c .state)) .state) → Answers (stepOf c) (c .input) done l (c .output)
     unfolding eventOf seenBy keptAlone acting restart
     step-restart e left =
         let k = keptIn (c .state) in
         let s = restart k .state in
         let sees : seenBy (c .who) restart-event (c .state) ≡ some s = rw (readKept-some (c .state) (step-kept e)) in
-        rw (acts restart-event s (rw e) sees) (quiet-answers c (restart k) (done-quiet s (c .state) _ refl left))
+        rw (acts restart-event s (rw e) sees) (quiet-answers c (restart k) (restart-told k .other) (done-quiet s (c .state) _ refl left))
 
     -- Receive.
     pub step-receive : c .event ≡ 5 → stepOf c ≡ receiving c (stateIn (c .state)) (read (c .input))
@@ -225,14 +240,15 @@ module _ (c : Call) where
 
 -- The same, over the call.
 heard-answers :
-    (c : Call) (s : State) (m : Option Message) {r : ℕ} {l out : List ℕ} → Gives (heard (c .who) s m) (c .state) (c .output) r l out
-    → Answers (receiving c s m) r l out
+    (c : Call) (s : State) (m : Option Message) {r : ℕ} {l out : List ℕ} → Hears (heard (c .who) s m) (c .input) (c .state) (c .output) r l out
+    → Answers (receiving c s m) (c .input) r l out
 unfolding heard receiving refusal leftBy written over
-heard-answers c s none g = record { returned = omega (arith, g .returned); state-left = g .state-left; output-left = g .output-left }
-heard-answers c s (some m) g = gives-answers c (receive (c .who) s m) g
+heard-answers c s none g =
+    record { place = g .place; place-is = g .place-is; returned = omega (arith, g .returned); state-left = g .state-left; output-left = g .output-left }
+heard-answers c s (some m) g = hears-answers c (receive (c .who) s m) g
 
 -- What a received text gives is the step's answer to the call, where the gate is open.
 pub step-heard :
     (c : Call) → gate (c .who) (c .event) (c .state) (c .output) ≡ done → c .event ≡ receive-number → {r : ℕ} {l out : List ℕ}
-    → Gives (heard (c .who) (stateIn (c .state)) (read (c .input))) (c .state) (c .output) r l out → Answers (stepOf c) r l out
+    → Hears (heard (c .who) (stateIn (c .state)) (read (c .input))) (c .input) (c .state) (c .output) r l out → Answers (stepOf c) (c .input) r l out
 step-heard c h e g = rw (step-receive c h e) (heard-answers c (stateIn (c .state)) (read (c .input)) g)

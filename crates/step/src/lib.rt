@@ -5,9 +5,9 @@ use kinds::Hub;
 use kinds::Place;
 use promise::Caller;
 
-// One step: the outcome in the lower half of what is returned, the bytes written in its upper half. All but outcome 0 leave the state; output bytes past a
-// message stay. What an event does not use of a, b and the input is not looked at. An event that passes the tests and is none of the first four is a
-// message received.
+// One step: the outcome, the place of the first wrong byte of a text that is no message, and the bytes written, in one number. All but outcome 0 leave the
+// state; output bytes past a message stay. What an event does not use of a, b and the input is not looked at. An event that passes the tests and is none of
+// the first four is a message received.
 pub fn take_step(
     g: Caller,
     event: u32,
@@ -17,7 +17,7 @@ pub fn take_step(
     input: &[u8],
     out: &mut [u8],
 ) -> u64
-    ensures { λ r. ⌜ Answers (stepOf (call (g .size) (g .own .0) event a b (now (state .entry)) (now (input .entry)) (now (out .entry)))) r (now (state .exit)) (now (out .exit)) ⌝ }
+    ensures { λ r. ⌜ Answers (stepOf (call (g .size) (g .own .0) event a b (now (state .entry)) (now (input .entry)) (now (out .entry)))) (now (input .entry)) r (now (state .exit)) (now (out .exit)) ⌝ }
 {
     let refused = gate::refusal_before(g, event, state, out);
     if refused != kinds::DONE {

@@ -18,7 +18,7 @@
 //! ```
 
 use crate::binding::call::{Call, PROPOSE, RECEIVE, RESTART, SEND, START, Step};
-use crate::binding::read_message;
+use crate::binding::{Answer, read_message};
 use crate::checker::message::hex;
 use crate::checker::{Checker, Deed};
 use crate::generator::messages::{FIELDS, ROOM};
@@ -134,7 +134,7 @@ impl Stage {
     ) -> Result<(), String> {
         let mut text = self.text(of)?.1.clone();
         damage(&mut text)?;
-        if read_message(&text, &mut [0; FIELDS]).0 == Outcome::Done {
+        if read_message(&text, &mut [0; FIELDS]).outcome == Outcome::Done {
             return Err("it still reads as a message".to_string());
         }
         let name = name.ok_or("a damaged text has a name")?;
@@ -173,17 +173,16 @@ impl Stage {
         let stored = &mut self.states[hub.0 as usize - 1];
         let lent = lost.map_or(stored.clone(), |byte| lost_filled(stored, byte));
         let (mut left, mut out) = (lent.clone(), vec![0; ROOM]);
-        let (outcome, written) =
+        let Answer { outcome, place, second } =
             (self.step)(&mut Call { n, own: hub, event, a, b, state: &mut left, input, out: &mut out });
-        out.truncate(written as usize);
+        out.truncate(second as usize);
         if outcome == Outcome::Done {
             stored.clone_from(&left);
         }
         // No machine stands behind a text that nobody wrote: only a refusal can be looked at, and it leaves the state.
         if origin != Origin::Forged || outcome == Outcome::Done {
-            let damaged = origin == Origin::Damaged;
-            let deed =
-                Deed { hub, event, input, damaged, outcome, lent: &lent, left: &left, stored, text: &out };
+            let (damaged, lent, left, text) = (origin == Origin::Damaged, &lent[..], &left[..], &out[..]);
+            let deed = Deed { hub, event, input, damaged, outcome, place, lent, left, stored, text };
             self.checker.see(&deed).map_err(|reason| format!("{reason:?}"))?;
         }
         self.tell(hub, outcome, &out);

@@ -24,8 +24,8 @@ fn text(kind: &str, term: u32, from: u32, lines: &str) -> String {
 
 /// What a hub comes to that hears nothing and writes nothing: the outcome, with this state before and after it.
 fn deed(outcome: Outcome, state: &[u8]) -> Deed<'_> {
-    let (hub, event, damaged) = (Hub(1), RECEIVE, false);
-    Deed { hub, event, input: b"", damaged, outcome, lent: state, left: state, stored: state, text: b"" }
+    let (hub, event, input, damaged, place, text) = (Hub(1), RECEIVE, b"", false, 0, b"");
+    Deed { hub, event, input, damaged, outcome, place, lent: state, left: state, stored: state, text }
 }
 
 /// A home of three under the checker's eyes.
@@ -228,6 +228,22 @@ fn damaged_texts_are_refused_for_that() {
     for outcome in Outcome::ALL {
         let expected = if outcome == Outcome::BadMessage { Ok(()) } else { Err(Reason::DamageTaken) };
         assert_eq!(Checker::new(3).see(&Deed { damaged: true, ..deed(outcome, &state) }), expected);
+    }
+}
+
+/// Only the length of a cut text is its place, and only with outcome 4 there is one.
+#[test]
+fn places_are_where_texts_are_wrong() {
+    let state = state(FOLLOWER, 0, 0, 0, &[]);
+    let sees = |outcome, place| {
+        let damaged = outcome == Outcome::BadMessage;
+        Checker::new(3).see(&Deed { input: b"type=app", damaged, place, ..deed(outcome, &state) })
+    };
+    for place in 0..10 {
+        let cut = if place == 8 { Ok(()) } else { Err(Reason::WrongPlace) };
+        assert_eq!(sees(Outcome::BadMessage, place), cut);
+        let late = if place == 0 { Ok(()) } else { Err(Reason::WrongPlace) };
+        assert_eq!(sees(Outcome::Stale, place), late);
     }
 }
 

@@ -269,6 +269,36 @@ static void carried_over(void)
     CHECK(chosen(1) == places + 1 && reports(1, places + 1, command));
 }
 
+/* Hub 2 receives what is no message: it is told where that is wrong, writes nothing, and its state stays. */
+static void refuse(const uint8_t *text, uint32_t length, uint32_t wrong_at)
+{
+    static uint8_t before[KRITNAMON_STATE_SIZE];
+    uint64_t answer;
+
+    memcpy(before, states[2], sizeof before);
+    answer = kritnamon_step(HUBS, 2, KRITNAMON_RECEIVE, 0, 0, states[2], KRITNAMON_STATE_SIZE, text, length, out, sizeof out);
+    CHECK(KRITNAMON_OUTCOME(answer) == KRITNAMON_BAD_MESSAGE);
+    CHECK(KRITNAMON_WRONG_AT(answer) == wrong_at && KRITNAMON_SECOND(answer) == 0);
+    CHECK(memcmp(states[2], before, sizeof before) == 0);
+}
+
+/* A leader's append comes cut, then from a hub that there is not, and then as it was written. */
+static void damaged_message(void)
+{
+    static uint8_t text[KRITNAMON_TEXT_MOST];
+    const uint32_t from = sizeof "type=append\nterm=1\nfrom=" - 1;
+    uint32_t length;
+
+    elect(1, 2, 3);
+    length = take(1, KRITNAMON_SEND, 2, nothing, 0);
+    memcpy(text, out, length);
+    refuse(text, length - 1, length - 1);
+    text[from] = '8';
+    refuse(text, length, from);
+    text[from] = '1';
+    take(2, KRITNAMON_RECEIVE, 0, text, length);
+}
+
 /* ---- The stack. */
 
 #define STACK_MOST 2048u /* as kritnamon.h has it */
@@ -334,6 +364,7 @@ static const struct {
     {"short-command", short_command},
     {"empty-hub", empty_hub},
     {"carried-over", carried_over},
+    {"damaged-message", damaged_message},
     {"stack-use", stack_use},
 };
 

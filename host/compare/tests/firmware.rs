@@ -97,6 +97,11 @@ fn a_state_of_version_1_is_carried_over() {
 }
 
 #[test]
+fn a_damaged_message_is_refused_with_its_place() {
+    run("damaged-message");
+}
+
+#[test]
 fn a_call_takes_less_stack_than_the_header_says() {
     run("stack-use");
 }

@@ -1,10 +1,11 @@
-//! Messages, read alone: the proved library and the independent program give the same answers, find the entry lines at the same place,
-//! and leave the same numbers. `KRITNAMON_ROUNDS=50` makes a longer run of it, `KRITNAMON_SEED` another one.
+//! Messages, read alone: the proved library and the independent program give the same answers, find the entry lines at the same place, name
+//! the same first wrong byte of a refused text, and leave the same numbers. `KRITNAMON_ROUNDS=50` makes a longer run of it,
+//! `KRITNAMON_SEED` another one.
 
-use compare::binding::read_message;
+use compare::binding::{Answer, read_message};
 use compare::generator::messages::{FIELDS, ROOM, fields_of, random, shapes};
 use compare::generator::rng::{Rng, rounds, seed};
-use independent::{Outcome, message};
+use independent::{Outcome, message, place};
 
 /// What stands in lent numbers before a call.
 const BEFORE: [u32; FIELDS + 2] = [91, 92, 93, 94, 95, 96, 97, 98, 99, 100];
@@ -12,19 +13,20 @@ const BEFORE: [u32; FIELDS + 2] = [91, 92, 93, 94, 95, 96, 97, 98, 99, 100];
 /// Reads a text with both, and counts as one comparison.
 fn compare_read(text: &[u8]) -> u64 {
     let mut ours = BEFORE;
-    let (outcome, from) = read_message(text, &mut ours);
+    let answer = read_message(text, &mut ours);
     let reading = message::read(text);
     let mut theirs = BEFORE;
-    let expected = match reading.message {
+    let outcome = match reading.message {
         Ok(message) => {
             theirs[..FIELDS].copy_from_slice(&fields_of(&message));
             Outcome::Done
         }
         Err(outcome) => outcome,
     };
-    let place = reading.entries.as_ptr() as usize - text.as_ptr() as usize;
+    let entries = reading.entries.as_ptr() as usize - text.as_ptr() as usize;
+    let expected = Answer { outcome, place: place::told(outcome, text) as u32, second: entries as u32 };
     let shown = String::from_utf8_lossy(&text[..text.len().min(400)]);
-    assert_eq!((outcome, from as usize), (expected, place), "{shown}");
+    assert_eq!(answer, expected, "{shown}");
     assert_eq!(ours, theirs, "{shown}");
     1
 }
@@ -269,9 +271,10 @@ fn random_texts_are_read_alike() {
 #[test]
 fn few_numbers_are_refused() {
     let text = shapes()[0].text();
-    for room in 0..FIELDS {
+    for (room, length) in (0..FIELDS).flat_map(|room| [(room, text.len()), (room, text.len() - 1)]) {
         let mut numbers = BEFORE[..room].to_vec();
-        assert_eq!(read_message(&text, &mut numbers), (Outcome::ShortOutput, 0));
+        let answer = read_message(&text[..length], &mut numbers);
+        assert_eq!(answer, Answer::new(Outcome::ShortOutput, 0));
         assert_eq!(numbers, BEFORE[..room]);
     }
 }

@@ -2,7 +2,7 @@
 
 use compare::binding::call::{PROPOSE, RECEIVE, START};
 use compare::binding::watched::Watched;
-use compare::binding::{chosen, reported, sizes};
+use compare::binding::{Answer, chosen, reported, sizes};
 use image::{HEAD_SIZE, STATE_SIZE, lost_parts};
 use independent::{Group, LIMIT, Outcome, state, step};
 
@@ -45,7 +45,7 @@ fn places_up_to_chosen_are_reported() {
     let group = Group::new(3, 1).expect("a group");
     let expected: Vec<_> = state::reported(&bytes, group).expect("a legal state").copied().collect();
     assert_eq!(expected, [BUZZ, STOP]);
-    assert_eq!(chosen(&bytes), (Outcome::Done, 2));
+    assert_eq!(chosen(&bytes), Answer::new(Outcome::Done, 2));
     for (index, command) in expected.iter().enumerate() {
         let whole = [&command[..], &[7; 4]].concat();
         assert_eq!(ask(&bytes, index as u32 + 1, 20), (Outcome::Done, whole));
@@ -58,7 +58,7 @@ fn nothing_else_is_reported() {
     for place in [0, 3, 4, 256, 1_024, 1_025, u32::MAX] {
         assert_eq!(ask(&bytes, place, 16), (Outcome::OutOfRange, vec![7; 16]));
     }
-    assert_eq!(chosen(&vec![0; STATE_SIZE]), (Outcome::Done, 0));
+    assert_eq!(chosen(&vec![0; STATE_SIZE]), Answer::new(Outcome::Done, 0));
     assert_eq!(ask(&vec![0; STATE_SIZE], 1, 16), (Outcome::OutOfRange, vec![7; 16]));
 }
 
@@ -71,13 +71,13 @@ fn refusals_come_in_order() {
     let mut damaged = bytes.clone();
     damaged[HEAD_SIZE + 5] = 0; // place 1's motor
     assert_eq!(ask(&damaged, 1, 16), (Outcome::BadState, vec![7; 16]));
-    assert_eq!(chosen(&damaged), (Outcome::BadState, 0));
+    assert_eq!(chosen(&damaged), Answer::new(Outcome::BadState, 0));
 }
 
 #[test]
 fn the_lost_parts_are_not_looked_at() {
     let mut bytes = leader();
     lost_parts(&bytes).into_iter().for_each(|part| bytes[part].fill(0xff));
-    assert_eq!(chosen(&bytes), (Outcome::Done, 2));
+    assert_eq!(chosen(&bytes), Answer::new(Outcome::Done, 2));
     assert_eq!(ask(&bytes, 2, 16), (Outcome::Done, STOP.to_vec()));
 }

@@ -4,6 +4,7 @@
 //! and `KRITNAMON_SEED` for another one. Each home has a seed of its own, which is printed if it fails: with it as
 //! `KRITNAMON_SEED` and `KRITNAMON_STEPS=1` that home alone is run.
 
+use compare::binding::Answer;
 use compare::binding::call::{Call, PROPOSE, RECEIVE, Step, exported, independent};
 use compare::broken::compares_when_empty;
 use compare::checker::Checker;
@@ -106,37 +107,37 @@ static BEYOND: AtomicU64 = AtomicU64::new(0);
 
 /// A hub of version 1.0.0. It has fewer places: what tells of others it refuses. (With 4; 13 says it here, which leaves as much, since hubs of
 /// one version never give each other 4.) Its log is full sooner.
-fn older(call: &mut Call) -> (Outcome, u32) {
+fn older(call: &mut Call) -> Answer {
     match call.event {
         RECEIVE if is_beyond(call.input) => {
             BEYOND.fetch_add(1, Ordering::Relaxed);
-            (Outcome::NothingNew, 0)
+            Answer::new(Outcome::NothingNew, 0)
         }
         PROPOSE => proposes_older(call),
         _ => compares_when_empty(call),
     }
 }
 
-fn proposes_older(call: &mut Call) -> (Outcome, u32) {
+fn proposes_older(call: &mut Call) -> Answer {
     let before = call.state.to_vec();
     let answer = proposes_any(call);
-    if answer.0 == Outcome::Done && number_at(call.state, LENGTH_AT) > OLDER_PLACES {
+    if answer.outcome == Outcome::Done && number_at(call.state, LENGTH_AT) > OLDER_PLACES {
         call.state.copy_from_slice(&before);
-        return (Outcome::LogFull, 0);
+        return Answer::new(Outcome::LogFull, 0);
     }
     answer
 }
 
 /// A client may propose any legal command, and an empty log compares ballots too: the independent program, with a command that is too short made
 /// longer on the way in, and short again where it was stored.
-fn proposes_any(call: &mut Call) -> (Outcome, u32) {
+fn proposes_any(call: &mut Call) -> Answer {
     if !is_short(call.input) {
         return compares_when_empty(call);
     }
     let mut longer = call.input.to_vec();
     put_number(&mut longer, 4, FELT_LEAST as u32);
     let answer = independent(&mut call.with_input(&longer));
-    if answer.0 == Outcome::Done {
+    if answer.outcome == Outcome::Done {
         let last = row_at(number_at(call.state, LENGTH_AT));
         call.state[last + 4..last + ROW_SIZE].copy_from_slice(call.input);
     }
@@ -147,7 +148,7 @@ fn proposes_any(call: &mut Call) -> (Outcome, u32) {
 static REPORTED_SHORT: AtomicU64 = AtomicU64::new(0);
 
 /// Hubs 1 and 2 are of the older version, the others are the proved library.
-fn of_two_versions(call: &mut Call) -> (Outcome, u32) {
+fn of_two_versions(call: &mut Call) -> Answer {
     if call.own.0 <= 2 {
         return older(call);
     }

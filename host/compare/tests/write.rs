@@ -3,7 +3,7 @@
 
 use compare::binding::outcomes::Outcomes;
 use compare::binding::watched::Watched;
-use compare::binding::{read_message, write_message};
+use compare::binding::{Answer, read_message, write_message};
 use compare::generator::damage::{self, EDGES, row_changes};
 use compare::generator::messages::{FIELDS, ROOM, Sample, message_of, random, rows, shapes};
 use compare::generator::rng::{Rng, rounds, seed};
@@ -11,18 +11,19 @@ use image::{ROW_SIZE, number_at, put_number};
 use independent::{Outcome, message};
 
 /// What the independent program answers to these numbers and rows, and writes: its writer takes a message, so what makes none is refused here.
-fn told(numbers: &[u32], rows: &[u8], out: &mut [u8]) -> (Outcome, u32) {
+fn told(numbers: &[u32], rows: &[u8], out: &mut [u8]) -> Answer {
+    let refused = |outcome| Answer::new(outcome, 0);
     if out.len() < ROOM {
-        return (Outcome::ShortOutput, 0);
+        return refused(Outcome::ShortOutput);
     }
-    let Ok(fields) = <[u32; FIELDS]>::try_from(numbers) else { return (Outcome::BadMessage, 0) };
-    let Some(message) = message_of(&fields) else { return (Outcome::BadMessage, 0) };
+    let Ok(fields) = <[u32; FIELDS]>::try_from(numbers) else { return refused(Outcome::BadMessage) };
+    let Some(message) = message_of(&fields) else { return refused(Outcome::BadMessage) };
     if rows.len() as u64 != u64::from(fields[7]) * ROW_SIZE as u64 {
-        return (Outcome::BadMessage, 0);
+        return refused(Outcome::BadMessage);
     }
     let sample = Sample { fields, rows: rows.to_vec() };
     let answer = message::write(&message, sample.entries().into_iter(), out);
-    (answer.outcome, answer.written as u32)
+    Answer::new(answer.outcome, answer.written as u32)
 }
 
 /// Writes with both into so much room, compares, and gives the outcome. What was written is read back.
@@ -34,12 +35,13 @@ fn compare_in(numbers: &[u32], rows: &[u8], room: usize) -> Outcome {
     let answer = write_message(numbers, rows, ours.lend());
     assert_eq!(answer, expected, "{numbers:?}, {} bytes of rows, {room} of output", rows.len());
     assert!(ours.bytes() == theirs, "other bytes: {numbers:?}");
-    if answer.0 == Outcome::Done {
+    if answer.outcome == Outcome::Done {
         let mut read = [0; FIELDS];
-        assert_eq!(read_message(&theirs[..answer.1 as usize], &mut read).0, Outcome::Done, "{numbers:?}");
+        let written = &theirs[..answer.second as usize];
+        assert_eq!(read_message(written, &mut read).outcome, Outcome::Done, "{numbers:?}");
         assert_eq!(read, numbers);
     }
-    answer.0
+    answer.outcome
 }
 
 fn compare(sample: &Sample) -> Outcome {

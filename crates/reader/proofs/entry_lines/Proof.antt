@@ -12,7 +12,7 @@ at-start c =
     let at-enum-told = c .before in
     let at-read-message = at-enum-told .before .before in
     let start = at-read-message .before .before in
-    part-same (start .args .s) (c .part .result) 0 0 _ _ (c .part .ensures) (part-refused (start .args .s .now) (read (start .args .s .now)) (at-read-message .read-message .result) (at-read-message .read-message .ensures .answer) (at-enum-told .enum-told .given .1))
+    part-same (start .args .s) (c .part .result) 0 0 _ _ (c .part .ensures) (part-refused (start .args .s .now) (at-read-message .read-message .ensures .place) (read (start .args .s .now)) (at-read-message .read-message .result) (at-read-message .read-message .ensures .answer) (at-enum-told .enum-told .given .1))
 
 -- A message: its entry lines begin in the text and go to its end.
 entry-part : tie.Need-returns-2
@@ -21,10 +21,10 @@ entry-part c =
     let at-read-message = at-entries .before .before in
     let s = at-read-message .before .before .args .s in
     let is = at-entries .entries .given .1 in
-    let answer = at-read-message .read-message .ensures .answer in
-    let within = part-within (s .now) (read (s .now)) (at-read-message .read-message .result) answer _ _ is in
+    let told = at-read-message .read-message .ensures in
+    let within = part-within (s .now) (told .place) (read (s .now)) (at-read-message .read-message .result) (told .answer) _ _ is in
     part-same s (c .lines-of .result) _ _ _ _ (rest-part s (c .lines-of .result) _ within (c .lines-of .ensures))
-    (part-message (s .now) (read (s .now)) (at-read-message .read-message .result) answer _ _ is)
+    (part-message (s .now) (told .place) (read (s .now)) (at-read-message .read-message .result) (told .answer) _ _ is)
 
 pub entry-lines-spec : {M : Type 1} → statement M
 entry-lines-spec =

@@ -1,12 +1,13 @@
 //! One call of the step made to both programs, every lent byte compared; and a count of what came of the calls.
 
+use crate::binding::Answer;
 use crate::binding::call::RECEIVE;
 use crate::binding::outcomes::Outcomes;
 use crate::binding::watched::Watched;
 use crate::generator::messages::fields_of;
 use image::{BALLOT_AT, HEAD_SIZE, LENGTH_AT, number_at};
 use independent::message::{self, Body, Message};
-use independent::{Outcome, step};
+use independent::{Outcome, place, step};
 
 /// A call of the step, with all that it lends. `room` is the size of the output.
 #[derive(Clone, Copy)]
@@ -44,13 +45,14 @@ impl Call<'_> {
         let mut theirs = [self.state.to_vec(), out];
         let [state, lent] = &mut theirs;
         let answer = step::step(n, own, event, a, b, state, self.input, lent);
-        let expected = (answer.outcome, answer.written as u32);
+        let place = place::told(answer.outcome, self.input) as u32;
+        let expected = Answer { outcome: answer.outcome, place, second: answer.written as u32 };
         assert!(answered == expected, "{answered:?}, not {expected:?}, is answered to {}", self.shown());
         let [state, lent] = theirs;
         assert!(ours[0].bytes() == state, "another state after {}", self.shown());
         assert!(ours[1].bytes() == self.input, "another input after {}", self.shown());
         assert!(ours[2].bytes() == lent, "another output after {}", self.shown());
-        After { outcome: expected.0, state, message: lent[..answer.written].to_vec() }
+        After { outcome: answer.outcome, state, message: lent[..answer.written].to_vec() }
     }
 
     /// The call in words; of the state, its head.

@@ -1,7 +1,8 @@
 //! One call of a hub's step, in one form for the proved library, for the independent program, and for broken variants of it.
 
+use crate::binding::Answer;
 pub use independent::step::{PROPOSE, RECEIVE, RESTART, SEND, START};
-use independent::{Hub, Outcome};
+use independent::{Hub, place};
 
 /// What a hub is called with.
 pub struct Call<'a> {
@@ -23,18 +24,19 @@ impl Call<'_> {
     }
 }
 
-/// Something that takes a hub's step: answers the outcome and how many bytes of message were written.
-pub type Step = fn(&mut Call) -> (Outcome, u32);
+/// Something that takes a hub's step: answers the outcome, where a received text is wrong, and how many bytes of message were written.
+pub type Step = fn(&mut Call) -> Answer;
 
 /// The proved library's step.
-pub fn exported(call: &mut Call) -> (Outcome, u32) {
+pub fn exported(call: &mut Call) -> Answer {
     crate::binding::step(call.n, call.own.0, call.event, call.a, call.b, call.state, call.input, call.out)
 }
 
 /// The independent program's step.
-pub fn independent(call: &mut Call) -> (Outcome, u32) {
+pub fn independent(call: &mut Call) -> Answer {
     let answer = independent::step::step(
         call.n, call.own.0, call.event, call.a, call.b, call.state, call.input, call.out,
     );
-    (answer.outcome, answer.written as u32)
+    let place = place::told(answer.outcome, call.input) as u32;
+    Answer { outcome: answer.outcome, place, second: answer.written as u32 }
 }

@@ -81,26 +81,47 @@ pub fn write_command(motor: u32, kind: u32, duration: i32, a: u32, b: u32, out: 
     })
 }
 
-/// The two halves of an answer: the outcome, and the number above it.
-fn halves(answer: u64) -> (Outcome, u32) {
-    (named(answer as u32), (answer >> 32) as u32)
+/// What the library answers in one number.
+#[derive(Clone, Copy, Debug, PartialEq, Eq)]
+pub struct Answer {
+    pub outcome: Outcome,
+    /// Where a text that was refused is wrong; else 0.
+    pub place: u32,
+    /// The number that the function has beside these, the bytes of a message say; 0 at a refusal that writes none.
+    pub second: u32,
 }
 
-/// Reads a message alone, into lent numbers: type, term, from, to, and its own. Answers the outcome and where the entry lines begin.
-pub fn read_message(text: &[u8], fields: &mut [u32]) -> (Outcome, u32) {
-    halves(read_packed(text, fields))
+impl Answer {
+    /// An answer that tells of no place.
+    pub fn new(outcome: Outcome, second: u32) -> Answer {
+        Answer { outcome, place: 0, second }
+    }
+
+    /// The three parts of the library's number. Whatever was called, only with outcome 4 there is a place.
+    fn unpacked(answer: u64) -> Answer {
+        let [outcome, place, second] = [answer & 0xff, answer >> 8 & 0xff_ffff, answer >> 32];
+        let outcome = named(outcome as u32);
+        assert!(outcome == Outcome::BadMessage || place == 0, "{outcome:?} with the place {place}");
+        Answer { outcome, place: place as u32, second: second as u32 }
+    }
 }
 
-/// The same, with the answer's two halves in one number, as the library gives it.
+/// Reads a message alone, into lent numbers: type, term, from, to, and its own. Answers the outcome, where the text is wrong, and where the
+/// entry lines begin.
+pub fn read_message(text: &[u8], fields: &mut [u32]) -> Answer {
+    Answer::unpacked(read_packed(text, fields))
+}
+
+/// The same, with the answer's three parts in one number, as the library gives it.
 pub fn read_packed(text: &[u8], fields: &mut [u32]) -> u64 {
     // SAFETY: each pointer and length are those of one slice, the second lent to this call alone.
     unsafe { library::kritnamon_read_message(text.as_ptr(), text.len(), fields.as_mut_ptr(), fields.len()) }
 }
 
 /// Writes a message alone, from its numbers and the rows of its entries. Answers the outcome and how many bytes were written.
-pub fn write_message(numbers: &[u32], rows: &[u8], out: &mut [u8]) -> (Outcome, u32) {
+pub fn write_message(numbers: &[u32], rows: &[u8], out: &mut [u8]) -> Answer {
     // SAFETY: each pointer and length are those of one slice, the last lent to this call alone.
-    halves(unsafe {
+    Answer::unpacked(unsafe {
         library::kritnamon_write_message(
             numbers.as_ptr(),
             numbers.len(),
@@ -112,7 +133,7 @@ pub fn write_message(numbers: &[u32], rows: &[u8], out: &mut [u8]) -> (Outcome, 
     })
 }
 
-/// Takes one step of hub `own` of `n`. Answers the outcome and how many bytes of message were written.
+/// Takes one step of hub `own` of `n`. Answers the outcome, where a received text is wrong, and how many bytes of message were written.
 #[allow(clippy::too_many_arguments)] // The call's form is given.
 pub fn step(
     n: u32,
@@ -123,9 +144,9 @@ pub fn step(
     state: &mut [u8],
     input: &[u8],
     out: &mut [u8],
-) -> (Outcome, u32) {
+) -> Answer {
     // SAFETY: each pointer and length are those of one slice; state and output are lent to this call alone.
-    halves(unsafe {
+    Answer::unpacked(unsafe {
         library::kritnamon_step(
             n,
             own,
@@ -157,9 +178,9 @@ pub fn sizes() -> (usize, u32, usize) {
 }
 
 /// The outcome, and how many commands a hub reports.
-pub fn chosen(state: &[u8]) -> (Outcome, u32) {
+pub fn chosen(state: &[u8]) -> Answer {
     // SAFETY: pointer and length are those of one slice.
-    halves(unsafe { library::kritnamon_chosen(state.as_ptr(), state.len()) })
+    Answer::unpacked(unsafe { library::kritnamon_chosen(state.as_ptr(), state.len()) })
 }
 
 /// The command that a hub reports at a place.

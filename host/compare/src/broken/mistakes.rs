@@ -1,6 +1,7 @@
 //! For each scenario a hub that makes the mistake it is about: the independent program with that mistake put around its step. So one sees
 //! that the scenario's text would not come out of such a hub.
 
+use crate::binding::Answer;
 use crate::binding::call::{Call, RECEIVE, Step, independent};
 use crate::broken::{
     chooses_with_one_less, compares_when_empty, counts_vote_twice, cuts_longer_log, heard,
@@ -34,7 +35,7 @@ pub const MISTAKES: [(&str, Step); 19] = [
 ];
 
 /// Whoever sends an append leads, so the hub does not.
-fn steps_down(call: &mut Call) -> (Outcome, u32) {
+fn steps_down(call: &mut Call) -> Answer {
     if heard(call, Kind::Append).is_some_and(|(state, _)| state.role == LEADER) {
         call.state[LOST].fill(0);
     }
@@ -42,7 +43,7 @@ fn steps_down(call: &mut Call) -> (Outcome, u32) {
 }
 
 /// A hub whose log is empty says yes, and writes its own ballot.
-fn tells_its_own_ballot(call: &mut Call) -> (Outcome, u32) {
+fn tells_its_own_ballot(call: &mut Call) -> Answer {
     let asked = heard(call, Kind::VoteRequest);
     let answer = independent(call);
     match asked {
@@ -54,7 +55,7 @@ fn tells_its_own_ballot(call: &mut Call) -> (Outcome, u32) {
 }
 
 /// An end beyond the leader's log counts as its whole log.
-fn takes_end_beyond_log(call: &mut Call) -> (Outcome, u32) {
+fn takes_end_beyond_log(call: &mut Call) -> Answer {
     match heard(call, Kind::AppendYes) {
         Some((state, message)) if state.role == LEADER => {
             let end = message.number("end").min(state.length());
@@ -66,31 +67,32 @@ fn takes_end_beyond_log(call: &mut Call) -> (Outcome, u32) {
 }
 
 /// A refusal says how far the follower is, whenever it comes.
-fn lowers_confirmed(call: &mut Call) -> (Outcome, u32) {
+fn lowers_confirmed(call: &mut Call) -> Answer {
     match heard(call, Kind::AppendNo) {
         Some((state, message)) if state.role == LEADER && message.term().0 == state.term => {
             put_number(call.state, confirmed_at(message.from().0), message.number("length"));
-            (Outcome::Done, 0)
+            Answer::new(Outcome::Done, 0)
         }
         _ => independent(call),
     }
 }
 
 /// Every append is acknowledged, with the end of the follower's own log.
-fn acknowledges_own_end(call: &mut Call) -> (Outcome, u32) {
+fn acknowledges_own_end(call: &mut Call) -> Answer {
     let appended = heard(call, Kind::Append);
-    let (outcome, written) = independent(call);
-    let (Some((_, append)), Some(state), Outcome::Done) = (appended, Image::read(call.state), outcome) else {
-        return (outcome, written);
+    let answer = independent(call);
+    let (Some((_, append)), Some(state), Outcome::Done) = (appended, Image::read(call.state), answer.outcome)
+    else {
+        return answer;
     };
     let (term, from, to, end) = (state.term, call.own.0, append.from().0, state.length());
     let text = format!("type=append-yes\nterm={term}\nfrom={from}\nto={to}\nend={end}\n");
     call.out[..text.len()].copy_from_slice(text.as_bytes());
-    (outcome, text.len() as u32)
+    Answer { second: text.len() as u32, ..answer }
 }
 
 /// Of an append whose end is missing the entries that came whole are taken.
-fn takes_torn_append(call: &mut Call) -> (Outcome, u32) {
+fn takes_torn_append(call: &mut Call) -> Answer {
     let lines = call.input.iter().rposition(|&byte| byte == b'\n').map_or(0, |last| last + 1);
     match Message::read(&call.input[..lines]) {
         Some(message) if call.event == RECEIVE && message.kind == Kind::Append => {
@@ -103,7 +105,7 @@ fn takes_torn_append(call: &mut Call) -> (Outcome, u32) {
 }
 
 /// A follower says yes to whoever asks at its term, as if it had not heard of that term.
-fn votes_at_own_term(call: &mut Call) -> (Outcome, u32) {
+fn votes_at_own_term(call: &mut Call) -> Answer {
     match heard(call, Kind::VoteRequest) {
         Some((state, message)) if state.role == FOLLOWER && message.term().0 == state.term => {
             put_number(call.state, TERM_AT, state.term - 1);

@@ -4,6 +4,7 @@
 
 pub mod mistakes;
 
+use crate::binding::Answer;
 use crate::binding::call::{Call, RECEIVE, RESTART, Step, independent};
 use crate::checker::message::{Kind, Message};
 use image::{
@@ -34,24 +35,19 @@ pub(crate) fn heard(call: &Call, kind: Kind) -> Option<(Image, Message)> {
 }
 
 /// The answer with another text in place of its message, if that is of this type.
-fn said(
-    call: &mut Call,
-    answer: (Outcome, u32),
-    kind: Kind,
-    other: impl Fn(Message) -> String,
-) -> (Outcome, u32) {
-    match Message::read(&call.out[..answer.1 as usize]) {
+fn said(call: &mut Call, answer: Answer, kind: Kind, other: impl Fn(Message) -> String) -> Answer {
+    match Message::read(&call.out[..answer.second as usize]) {
         Some(message) if message.kind == kind => {
             let text = other(message);
             call.out[..text.len()].copy_from_slice(text.as_bytes());
-            (answer.0, text.len() as u32)
+            Answer { second: text.len() as u32, ..answer }
         }
         _ => answer,
     }
 }
 
 /// As Raft does: whatever stands behind the append's last entry is removed, once the entry at prev agrees.
-pub(crate) fn cuts_longer_log(call: &mut Call) -> (Outcome, u32) {
+pub(crate) fn cuts_longer_log(call: &mut Call) -> Answer {
     if let Some((state, message)) = heard(call, Kind::Append) {
         let (prev, prevterm) = (message.number("prev") as usize, message.number("prevterm"));
         let joins = prev == 0 || state.log.get(prev - 1).is_some_and(|entry| entry.0 == prevterm);
@@ -74,7 +70,7 @@ fn cut(bytes: &mut [u8], state: &Image, end: u32) {
 }
 
 /// Votes are counted and not their voters: a voter heard before counts as one that is still missing.
-pub(crate) fn counts_vote_twice(call: &mut Call) -> (Outcome, u32) {
+pub(crate) fn counts_vote_twice(call: &mut Call) -> Answer {
     let Some((state, message)) = heard(call, Kind::VoteYes) else { return independent(call) };
     let has_voted = |hub: u32| state.voters[hub as usize - 1] == 1;
     if state.role != CANDIDATE || !has_voted(message.from().0) {
@@ -86,7 +82,7 @@ pub(crate) fn counts_vote_twice(call: &mut Call) -> (Outcome, u32) {
 }
 
 /// The asked hub does not compare ballots. That alone is safe: the candidate refuses its vote with 7.
-pub fn says_yes_to_lower_ballot(call: &mut Call) -> (Outcome, u32) {
+pub fn says_yes_to_lower_ballot(call: &mut Call) -> Answer {
     match heard(call, Kind::VoteRequest) {
         Some((state, message)) if message.term().0 > state.term => {
             let ballot = state.ballot.max(message.number("ballot"));
@@ -98,7 +94,7 @@ pub fn says_yes_to_lower_ballot(call: &mut Call) -> (Outcome, u32) {
 }
 
 /// Neither the asked hub nor the candidate compares ballots.
-pub(crate) fn votes_for_lower_ballot(call: &mut Call) -> (Outcome, u32) {
+pub(crate) fn votes_for_lower_ballot(call: &mut Call) -> Answer {
     match heard(call, Kind::VoteYes) {
         Some((state, message)) if state.role == CANDIDATE && message.term().0 == state.term => {
             // With the highest ballot that a candidate may have, it takes any vote. A leader has its term for its ballot.
@@ -114,7 +110,7 @@ pub(crate) fn votes_for_lower_ballot(call: &mut Call) -> (Outcome, u32) {
 }
 
 /// A log that has nothing behind last is taken for an empty one: the hub says yes whatever its ballot, and tells ballot 0.
-pub(crate) fn tells_nothing_behind_last(call: &mut Call) -> (Outcome, u32) {
+pub(crate) fn tells_nothing_behind_last(call: &mut Call) -> Answer {
     match heard(call, Kind::VoteRequest) {
         Some((state, message)) if state.length() <= message.number("last") => {
             let answer = says_yes_to_lower_ballot(call);
@@ -126,7 +122,7 @@ pub(crate) fn tells_nothing_behind_last(call: &mut Call) -> (Outcome, u32) {
 
 /// A hub whose log is empty compares its ballot and tells it, as all others do. So did hubs before version 1.2.0: it blocks votes, and does
 /// no other harm.
-pub fn compares_when_empty(call: &mut Call) -> (Outcome, u32) {
+pub fn compares_when_empty(call: &mut Call) -> Answer {
     let Some((state, message)) = heard(call, Kind::VoteRequest) else { return independent(call) };
     let refuses = state.ballot > message.number("ballot");
     let answer = independent(call);
@@ -140,10 +136,10 @@ pub fn compares_when_empty(call: &mut Call) -> (Outcome, u32) {
 }
 
 /// At each place that was held and is told of again, the pair with the lesser ballot stays.
-pub(crate) fn keeps_lesser_ballot(call: &mut Call) -> (Outcome, u32) {
+pub(crate) fn keeps_lesser_ballot(call: &mut Call) -> Answer {
     let before = heard(call, Kind::VoteYes);
     let answer = independent(call);
-    let Some((state, message)) = before.filter(|_| answer.0 == Outcome::Done) else { return answer };
+    let Some((state, message)) = before.filter(|_| answer.outcome == Outcome::Done) else { return answer };
     let ballot = message.number("ballot");
     for (place, (held, entry)) in (state.length() + 1..).zip(state.gathered.iter().zip(&message.entries)) {
         let lesser = if ballot < held.0 { (ballot, entry.1) } else { *held };
@@ -157,10 +153,10 @@ pub(crate) fn keeps_lesser_ballot(call: &mut Call) -> (Outcome, u32) {
     answer
 }
 
-pub(crate) fn chooses_with_one_less(call: &mut Call) -> (Outcome, u32) {
+pub(crate) fn chooses_with_one_less(call: &mut Call) -> Answer {
     let heard = heard(call, Kind::AppendYes);
     let answer = independent(call);
-    if let (Some(_), Some(state), Outcome::Done) = (heard, Image::read(call.state), answer.0) {
+    if let (Some(_), Some(state), Outcome::Done) = (heard, Image::read(call.state), answer.outcome) {
         let mut confirmed = state.confirmed;
         confirmed.sort_by(|one, other| other.cmp(one));
         let too_few = call.n as usize / 2;
@@ -170,7 +166,7 @@ pub(crate) fn chooses_with_one_less(call: &mut Call) -> (Outcome, u32) {
 }
 
 /// One place more is acknowledged than the append had.
-fn acknowledges_too_much(call: &mut Call) -> (Outcome, u32) {
+fn acknowledges_too_much(call: &mut Call) -> Answer {
     let answer = independent(call);
     said(call, answer, Kind::AppendYes, |yes| {
         let end = (yes.number("end") + 1).min(PLACES);
@@ -179,7 +175,7 @@ fn acknowledges_too_much(call: &mut Call) -> (Outcome, u32) {
 }
 
 /// The ballot is not stored: after a restart it is taken to be the term of the log's last entry.
-fn forgets_ballot(call: &mut Call) -> (Outcome, u32) {
+fn forgets_ballot(call: &mut Call) -> Answer {
     let answer = independent(call);
     if let (RESTART, Some(state)) = (call.event, Image::read(call.state)) {
         put_number(call.state, BALLOT_AT, state.log.last().map_or(0, |entry| entry.0));
@@ -188,7 +184,7 @@ fn forgets_ballot(call: &mut Call) -> (Outcome, u32) {
 }
 
 /// Who finds itself a leader after a restart goes on as one, with the confirmed lengths that it finds, cut to what a leader's may be.
-pub(crate) fn trusts_lost_parts(call: &mut Call) -> (Outcome, u32) {
+pub(crate) fn trusts_lost_parts(call: &mut Call) -> Answer {
     let found = call.state.to_vec();
     let answer = independent(call);
     let Some(kept) = Image::read(call.state).filter(|_| call.event == RESTART) else { return answer };

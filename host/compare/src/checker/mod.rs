@@ -1,14 +1,14 @@
 //! Watches a home from outside: after each step of a hub it reads the hub's bytes and the text that it wrote, and lets MultiPaxos take the
 //! steps that these stand for. A hub's term is its promise; a hub with ballot b and length n counts as having voted at b for places 1..n;
 //! who starts or says yes reports; who leads proposes what its log has. What the machine cannot do, what a message claims without
-//! ground, and what a home must never report is named by a `Reason`.
+//! ground, and what a home must never report is named by a `Reason`. Where a refused text is wrong, it asks the independent program.
 
 pub mod message;
 pub mod paxos;
 
 use crate::binding::call::{PROPOSE, RESTART, START};
 use image::{Command, Image, LEADER, Row};
-use independent::{Hub, Outcome, Place, Term};
+use independent::{Hub, Outcome, Place, Term, place};
 use message::{Kind, Message};
 use paxos::{Machine, Refusal};
 use std::collections::BTreeSet;
@@ -36,6 +36,8 @@ pub enum Reason {
     NotWhatWasKept,
     /// A text that reads as no message and is not refused for that.
     DamageTaken,
+    /// Another place than that of a refused text's first wrong byte, or one where no text is refused.
+    WrongPlace,
     /// A step that MultiPaxos cannot take.
     Machine(Refusal),
     /// The log no longer shows a vote that the hub has cast.
@@ -79,6 +81,8 @@ pub struct Deed<'a> {
     /// Whether the input is a text that was damaged until it reads as no message.
     pub damaged: bool,
     pub outcome: Outcome,
+    /// Where the input is wrong, by the step.
+    pub place: u32,
     /// The bytes that the step was lent as the hub's state, and what it made of them.
     pub lent: &'a [u8],
     pub left: &'a [u8],
@@ -179,6 +183,7 @@ fn check_step(deed: &Deed) -> Result<(), Reason> {
     ensure(done || deed.left == deed.lent, Reason::RefusalActs)?;
     ensure(done || stale || deed.text.is_empty(), Reason::RefusalActs)?;
     ensure(!deed.damaged || deed.outcome == Outcome::BadMessage, Reason::DamageTaken)?;
+    ensure(deed.place as usize == place::told(deed.outcome, deed.input), Reason::WrongPlace)?;
     if deed.event == RESTART {
         let kept = Image::kept(deed.lent).map(|image| image.bytes());
         ensure(done && kept.is_some_and(|kept| kept == deed.left), Reason::NotWhatWasKept)?;

@@ -4,7 +4,7 @@
 
 use crate::binding::call::{Call, PROPOSE, RECEIVE, RESTART, SEND, START, Step};
 use crate::binding::outcomes::Outcomes;
-use crate::binding::read_message;
+use crate::binding::{Answer, read_message};
 use crate::checker::message::{Kind, Message};
 use crate::checker::{Checker, Deed, Reason};
 use crate::generator::damage;
@@ -360,7 +360,7 @@ impl Home {
     /// A text that still reads as a message after damage is lost: nobody promises anything of hubs that take what no hub wrote.
     fn hand_over_damaged(&mut self, mut letter: Letter) -> Result<(), Reason> {
         damage::text(&mut self.rng, &mut letter.text);
-        if read_message(&letter.text, &mut [0; FIELDS]).0 == Outcome::Done {
+        if read_message(&letter.text, &mut [0; FIELDS]).outcome == Outcome::Done {
             self.tally.still_read += 1;
             return Ok(());
         }
@@ -373,7 +373,8 @@ impl Home {
         let Some(Letter { to, text, .. }) = self.network.any_posted(&mut self.rng) else { return Ok(()) };
         let (state, out) = (&mut self.state(*to).to_vec(), &mut vec![0; ROOM]);
         let (n, own, input) = (self.n, *to, text);
-        let (outcome, _) = (self.step)(&mut Call { n, own, event: RECEIVE, a: 0, b: 0, state, input, out });
+        let Answer { outcome, .. } =
+            (self.step)(&mut Call { n, own, event: RECEIVE, a: 0, b: 0, state, input, out });
         self.tally.reheard += 1;
         let told = || format!("a copy of hub {} hears {}: {outcome:?}", own.0, String::from_utf8_lossy(text));
         self.checker.hear(outcome).inspect_err(|_| self.trail.push_back(told()))
@@ -392,14 +393,15 @@ impl Home {
         let lent = self.lent(&before, event);
         let (mut left, mut out) = (lent.clone(), vec![0; ROOM]);
         let state = &mut left;
-        let (outcome, written) =
+        let Answer { outcome, place, second } =
             (self.step)(&mut Call { n: self.n, own: hub, event, a, b, state, input, out: &mut out });
         if outcome == Outcome::Done {
             self.states[index].clone_from(&left);
         }
         self.note(&before, hub, event, input, outcome);
-        let (stored, text) = (&self.states[index], &out[..written as usize]);
-        let deed = Deed { hub, event, input, damaged, outcome, lent: &lent, left: &left, stored, text };
+        let (stored, text) = (&self.states[index], &out[..second as usize]);
+        let deed =
+            Deed { hub, event, input, damaged, outcome, place, lent: &lent, left: &left, stored, text };
         self.checker.see(&deed)?;
         if let Some(message) = Message::read(text) {
             self.network.post(&mut self.rng, self.now, &message, text);

@@ -2,7 +2,9 @@
 //! is wrong with them.
 
 use crate::numbers::Numbers;
-use compare::binding::{read_command, read_message, sizes, step, version, write_command, write_message};
+use compare::binding::{
+    Answer, read_command, read_message, sizes, step, version, write_command, write_message,
+};
 use independent::Outcome;
 use std::fmt::Debug;
 use std::ops::Range;
@@ -120,13 +122,13 @@ const TEXTS: [(&str, &str, [u32; 3], u32); 6] = [
 
 fn a_message_has_its_size(header: &Numbers) -> Result<(), String> {
     let text = TEXTS[0].1.as_bytes();
-    least_room(header.size("MESSAGE_NUMBERS")?, |room| read_message(text, &mut vec![0; room]).0)
+    least_room(header.size("MESSAGE_NUMBERS")?, |room| read_message(text, &mut vec![0; room]).outcome)
 }
 
 fn a_message_has_its_numbers(header: &Numbers) -> Result<(), String> {
     for (name, text, [a, b, c], count) in TEXTS {
         let mut numbers = vec![0; header.size("MESSAGE_NUMBERS")?];
-        same(name, read_message(text.as_bytes(), &mut numbers).0, Outcome::Done)?;
+        same(name, read_message(text.as_bytes(), &mut numbers).outcome, Outcome::Done)?;
         let to = if name == "VOTE_REQUEST" { header.get("ALL")? } else { 2 };
         let head = [("TYPE", header.get(name)?), ("TERM", 9), ("FROM", 1), ("TO", to)];
         let own = [("OWN_1", a), ("OWN_2", b), ("OWN_3", c), ("COUNT", count)];
@@ -143,7 +145,7 @@ fn an_entry_has_its_row(header: &Numbers) -> Result<(), String> {
     read_message(TEXTS[3].1.as_bytes(), &mut numbers);
     let row = [&[0, 0, 0, 7, 0, 3, 0, 1, 0, 0, 0, 250, 0x3f][..], &[0; 64]].concat();
     let mut out = vec![0; header.size("TEXT_MOST")?];
-    let mut taken = |size: usize| row.get(..size).map(|row| write_message(&numbers, row, &mut out).0);
+    let mut taken = |size: usize| row.get(..size).map(|row| write_message(&numbers, row, &mut out).outcome);
     let size = header.size("ROW_SIZE")?;
     same("a row", taken(size), Some(Outcome::Done))?;
     same("a row and a byte", taken(size + 1), Some(Outcome::BadMessage))
@@ -173,8 +175,8 @@ impl Hub<'_> {
     fn take(&mut self, event: &str, a: u32, b: u32, input: &[u8]) -> Result<(Outcome, String), String> {
         let mut out = vec![0; self.room];
         let event = self.header.get(event)?;
-        let (outcome, written) = step(self.n, 1, event, a, b, &mut self.state, input, &mut out);
-        Ok((outcome, String::from_utf8_lossy(&out[..written as usize]).into_owned()))
+        let Answer { outcome, second, .. } = step(self.n, 1, event, a, b, &mut self.state, input, &mut out);
+        Ok((outcome, String::from_utf8_lossy(&out[..second as usize]).into_owned()))
     }
 
     /// Takes an event of which nothing but the outcome counts.

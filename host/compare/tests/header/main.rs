@@ -102,8 +102,8 @@ fn the_header_is_cpp17() {
     }
 }
 
-/// The two halves of an answer: where the entry lines of a text begin, and of a cut text that it is none.
-const HALVES: &str = r#"
+/// The three parts of an answer: where the entry lines of a text begin, and of a cut text that it is none, and wrong at its end.
+const PARTS: &str = r#"
 #include "kritnamon.h"
 static const char text[] = "type=vote-no\nterm=1\nfrom=1\nto=2\n";
 static uint64_t read_first(size_t length)
@@ -114,17 +114,19 @@ static uint64_t read_first(size_t length)
 int main(void)
 {
     uint64_t whole = read_first(sizeof text - 1), cut = read_first(sizeof text - 2);
-    return KRITNAMON_OUTCOME(whole) == KRITNAMON_DONE && KRITNAMON_SECOND(whole) == sizeof text - 1
-        && KRITNAMON_OUTCOME(cut) == KRITNAMON_BAD_MESSAGE && KRITNAMON_SECOND(cut) == 0 ? 0 : 1;
+    return KRITNAMON_OUTCOME(whole) == KRITNAMON_DONE && KRITNAMON_WRONG_AT(whole) == 0
+        && KRITNAMON_SECOND(whole) == sizeof text - 1
+        && KRITNAMON_OUTCOME(cut) == KRITNAMON_BAD_MESSAGE && KRITNAMON_WRONG_AT(cut) == sizeof text - 2
+        && KRITNAMON_SECOND(cut) == 0 ? 0 : 1;
 }
 "#;
 
 #[test]
 fn the_macros_take_an_answer_apart() {
-    assert_eq!(macros(&header()), ["OUTCOME", "SECOND"], "the program tries these");
+    assert_eq!(macros(&header()), ["OUTCOME", "WRONG_AT", "SECOND"], "the program tries these");
     let folder = Path::new(env!("CARGO_TARGET_TMPDIR"));
-    let (source, program) = (folder.join("halves.c"), folder.join("halves"));
-    std::fs::write(&source, HALVES).expect("a file of our own");
+    let (source, program) = (folder.join("parts.c"), folder.join("parts"));
+    std::fs::write(&source, PARTS).expect("a file of our own");
     let mut compile = compiler("cc", "c", "-std=c11");
     compile.arg("-I").arg(path("include")).arg(source).args(["-x", "none"]);
     compile.arg(path("target/native/libkritnamon.a")).arg("-o").arg(&program);

@@ -4,6 +4,7 @@
 use crate::cpu::medians;
 use crate::steps::LENGTHS;
 use crate::table;
+use compare::binding::Answer;
 use compare::binding::call::{Call, PROPOSE, Step, exported, independent};
 use compare::generator::messages::ROOM;
 use compare::generator::rng::{Rng, seed};
@@ -32,7 +33,7 @@ fn checks(step: Step, mut states: Vec<Vec<u8>>) -> impl FnMut() {
         let state = &mut states[turns.next().expect("a turn")];
         let call =
             &mut Call { n: 5, own: Hub(1), event: PROPOSE, a: 0, b: 0, state, input: b"", out: &mut out };
-        assert_eq!(step(call), (Outcome::WrongRole, 0));
+        assert_eq!(step(call), Answer::new(Outcome::WrongRole, 0));
     }
 }
 

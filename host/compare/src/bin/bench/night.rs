@@ -2,6 +2,7 @@
 
 use crate::cpu::medians;
 use crate::table;
+use compare::binding::Answer;
 use compare::binding::call::{Call, PROPOSE, RECEIVE, SEND, START, Step, exported, independent};
 use compare::generator::messages::ROOM;
 use image::{CHOSEN_AT, STATE_SIZE, number_at};
@@ -34,9 +35,9 @@ impl Night {
         self.steps += 1;
         let state = &mut self.states[LEADER as usize - 1];
         let call = &mut Call { n: self.n, own: Hub(LEADER), event, a, b, state, input, out: &mut self.asked };
-        let (outcome, written) = (self.step)(call);
-        assert_eq!(outcome, Outcome::Done, "event {event} of the leader");
-        written as usize
+        let answer = (self.step)(call);
+        assert_eq!(answer.outcome, Outcome::Done, "event {event} of the leader");
+        answer.second as usize
     }
 
     /// A hub hears the leader's text, and the leader its answer: a vote that comes after the majority changes nothing.
@@ -47,9 +48,9 @@ impl Night {
             let state = &mut states[own as usize - 1];
             step(&mut Call { n: *n, own: Hub(own), event: RECEIVE, a: 0, b: 0, state, input, out })
         };
-        let (outcome, written) = hears(peer, &asked[..length], answered);
-        assert_eq!(outcome, Outcome::Done, "hub {peer} hears the leader");
-        let (outcome, _) = hears(LEADER, &answered[..written as usize], closed);
+        let answer = hears(peer, &asked[..length], answered);
+        assert_eq!(answer.outcome, Outcome::Done, "hub {peer} hears the leader");
+        let Answer { outcome, .. } = hears(LEADER, &answered[..answer.second as usize], closed);
         assert!([Outcome::Done, Outcome::NothingNew].contains(&outcome), "the leader hears hub {peer}");
     }
 
