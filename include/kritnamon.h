@@ -43,6 +43,10 @@ extern "C" {
  * the header, once when it starts. Proved: kritnamon_version in crates/kritnamon. */
 uint32_t kritnamon_version(void);
 
+/* Since 3.0.0 an answer has the place of a wrong byte beside its outcome (KRITNAMON_WRONG_AT): firmware
+ * that was built with an older header reads another outcome where a message is damaged, and is to be
+ * built again. States and texts are those of 2.0.0. */
+
 /* ---- Outcomes. They are tested in this order; the first that applies is given. */
 
 #define KRITNAMON_DONE           0u  /* done */
