@@ -9,10 +9,10 @@ use Rattle.text.specs.Reader.{Got, got, lost, Reader}
 use Rattle.text.proofs.ReaderLaws.{got-value, got-rest, got-same, lost-never, onward-sound}
 use Rattle.command.specs.Entry.{Entry}
 use Rattle.message.specs.Message.{Message}
-use Rattle.message.specs.Fields.{MessageType, Field, fields, unset, withNumber, countIn}
+use Rattle.message.specs.Fields.{MessageType, Field, fields, unset, withNumber}
 use Rattle.message.specs.Opening.{Opening, typeLine, opening}
 use Rattle.message.specs.Text.{key}
-use Rattle.message.specs.Range.{range, fieldIn, lowIn, highIn, linesIn, entryIn, entriesIn, leastAfter, messageIn}
+use Rattle.message.specs.Range.{range, fieldIn, linesIn, entryIn, entriesIn, leastAfter, messageIn}
 use Rattle.begins.specs.Seek.{Sought, found, wrong, Seeker, on, restOf}
 use Rattle.begins.specs.Lines.{seekField, seekLines}
 use Rattle.begins.specs.Types.{seekType}
@@ -21,8 +21,8 @@ use Rattle.begins.proofs.Exact.{Exact}
 use Rattle.begins.proofs.Seeks.{Seeks}
 use Rattle.begins.proofs.LinesLaws.{Open, open-all, seeks-line, line-range}
 use Rattle.begins.proofs.TypesLaws.{seeks-type}
-use Rattle.begins.proofs.EntriesLaws.{seeks-entry, entry-term, seeks-entries}
-use Rattle.begins.proofs.MessageLaws.{seeks-opening, opening-open, seeks-message}
+use Rattle.begins.proofs.EntriesLaws.{seeks-entry, entry-term}
+use Rattle.begins.proofs.MessageLaws.{seeks-opening, seeks-message}
 
 -- ---- a seeker and its reader
 
@@ -70,6 +70,16 @@ module _ {A B : Type 0} (g : A → Seeker B) where
   unfolding on restOf
   rest-wrong {o} e = ap (λ (x : Sought A). restOf (on x g)) e
 
+-- A reader and its seeker, and what is sought behind them.
+module _ {A B : Type 0} (p : Reader A) (g : Seeker A) (x : Seeks p g) (f : A → Seeker B) (s : List ℕ) where
+  -- What the reader does not read is wrong where its seeker is.
+  pub rest-lost : p s ≡ lost → restOf (on (g s) f) ≡ restOf (g s)
+  rest-lost e = rest-wrong f (wrong-back p g x s e)
+
+  -- Behind what it reads the other decides.
+  pub rest-got : {a : A} {r : List ℕ} → p s ≡ got a r → restOf (on (g s) f) ≡ restOf (f a r)
+  rest-got e = rest-found f (found-back p g x s e)
+
 -- What is only told leaves what was left.
 rest-pure : {A B : Type 0} (f : A → B) (o : Sought A) → restOf (on o (λ a. found (f a))) ≡ restOf o
 unfolding on restOf
@@ -86,16 +96,16 @@ unfolding linesIn seekLines
 lines-wrong-from t zero all before s {f = f} {fs} o e d l =
     ap (λ (gs : List Field). restOf (seekLines t gs before s)) d
     ∙ got-same (λ ns q. fieldIn t f ns q ≡ lost → restOf (seekLines t (f ∷ fs) before s) ≡ restOf (seekField t f ns q)) e
-    (λ k. rest-wrong (λ x. seekLines t fs (withNumber f x before))
-    (wrong-back (fieldIn t f before) (seekField t f before)
-    (seeks-line (key f) (range t f before .lo) (range t f before .hi) (subst (λ (gs : List Field). Open t gs before) d o .0)) s k))
+    (rest-lost (fieldIn t f before) (seekField t f before)
+    (seeks-line (key f) (range t f before .lo) (range t f before .hi) (subst (λ (gs : List Field). Open t gs before) d o .0))
+    (λ x. seekLines t fs (withNumber f x before)) s)
     l
 lines-wrong-from t (suc n) [] before s o e d l = absurd (nil≢cons d)
 lines-wrong-from t (suc n) (g ∷ gs) before s o e d l =
     let k = onward-sound e in
     let w = line-range (key g) (range t g before .lo) (range t g before .hi) s (k .first) in
-    rest-found (λ x. seekLines t gs (withNumber g x before))
-    (found-back (fieldIn t g before) (seekField t g before) (seeks-line (key g) (range t g before .lo) (range t g before .hi) (o .0)) s (k .first))
+    rest-got (fieldIn t g before) (seekField t g before) (seeks-line (key g) (range t g before .lo) (range t g before .hi) (o .0))
+    (λ x. seekLines t gs (withNumber g x before)) s (k .first)
     ∙ lines-wrong-from t n gs (withNumber g (k .value) before) (k .left) (o .1 (k .value) (w .0) (w .1)) (k .next) d l
 
 -- If so many lines of a type are read and the next one is not, the lines are wrong where that one is.
@@ -110,18 +120,18 @@ lines-wrong t n s e d l = lines-wrong-from t n (fields t) unset s (open-all t) e
 -- If the line `type` is not read, the opening is wrong where that line is.
 pub type-wrong : (s : List ℕ) → typeLine s ≡ lost → restOf (seekOpening s) ≡ restOf (seekType s)
 unfolding seekOpening
-type-wrong s e = rest-wrong _ (wrong-back typeLine seekType seeks-type s e)
+type-wrong s e = rest-lost typeLine seekType seeks-type _ s e
 
 -- If it is read, the opening is wrong where the lines behind it are.
 pub type-right : (s : List ℕ) {t : MessageType} {r : List ℕ} → typeLine s ≡ got t r → restOf (seekOpening s) ≡ restOf (seekLines t (fields t) unset r)
 unfolding seekOpening
 type-right s {t} {r} e =
-    rest-found _ (found-back typeLine seekType seeks-type s e) ∙ rest-pure (λ ns. record { type = t; numbers = ns }) (seekLines t (fields t) unset r)
+    rest-got typeLine seekType seeks-type _ s e ∙ rest-pure (λ ns. record { type = t; numbers = ns }) (seekLines t (fields t) unset r)
 
 -- If an opening is not read, the message is wrong where the opening is.
 pub opening-wrong : (s : List ℕ) → opening s ≡ lost → restOf (seekMessage s) ≡ restOf (seekOpening s)
 unfolding seekMessage
-opening-wrong s e = rest-wrong _ (wrong-back opening seekOpening seeks-opening s e)
+opening-wrong s e = rest-lost opening seekOpening seeks-opening _ s e
 
 -- ---- entries
 
@@ -134,25 +144,19 @@ unfolding entriesIn seekEntries leastAfter
 entries-wrong n zero low high s h more e l = absurd (omega arith)
 entries-wrong zero (suc c) low high s h more e l =
     got-same (λ es q. entryIn (leastAfter low es) high q ≡ lost → restOf (seekEntries (suc c) low high s) ≡ restOf (seekEntry (leastAfter low es) high q)) e
-    (λ k. rest-wrong _ (wrong-back (entryIn low high) (seekEntry low high) (seeks-entry low high h) s k)) l
+    (rest-lost (entryIn low high) (seekEntry low high) (seeks-entry low high h) _ s) l
 entries-wrong (suc n) (suc c) low high s h more e l =
     let k = onward-sound e in
     let x = k .value in
     let ks = onward-sound (k .next) in
     let w = entry-term low high s (k .first) in
-    rest-found _ (found-back (entryIn low high) (seekEntry low high) (seeks-entry low high h) s (k .first))
+    rest-got (entryIn low high) (seekEntry low high) (seeks-entry low high h) _ s (k .first)
     ∙ rest-pure (λ xs. x ∷ xs) (seekEntries c (x .term) high (k .left))
     ∙ got-same
     (λ es q.
     entryIn (leastAfter low es) high q ≡ lost → restOf (seekEntries c (x .term) high (k .left)) ≡ restOf (seekEntry (leastAfter low es) high q))
     (ks .next)
     (λ j. entries-wrong n c (x .term) high (k .left) (w .1) (omega arith) (ks .first) j) l
-
--- All entries that are read are found.
-pub entries-right :
-    (n low high : ℕ) (s : List ℕ) {es : List Entry} {q : List ℕ} → low ≤ high → entriesIn n low high s ≡ got es q → restOf (seekEntries n low high s) ≡ q
-unfolding restOf
-entries-right n low high s h e = ap restOf (found-back (entriesIn n low high) (seekEntries n low high) (seeks-entries n low high (λ _. h)) s e)
 
 -- Behind entries that are read some term can follow.
 pub least-open : (n low high : ℕ) (s : List ℕ) {es : List Entry} {q : List ℕ} → low ≤ high → entriesIn n low high s ≡ got es q → leastAfter low es ≤ high
@@ -164,20 +168,10 @@ least-open (suc n) low high s h e =
     got-same (λ es q. leastAfter low es ≤ high) (ks .next)
     (least-open n (k .value .term) high (k .left) (entry-term low high s (k .first) .1) (ks .first))
 
--- If an opening is read, and fewer entries behind it than it counts, and the next one is not, the message is wrong where that one is.
-pub entry-wrong :
-    (s : List ℕ) {o : Opening} {r : List ℕ} (n : ℕ) {es : List Entry} {q : List ℕ} → opening s ≡ got o r → n < countIn (o .type) (o .numbers) →
-    entriesIn n (lowIn (o .type) (o .numbers)) (highIn (o .type) (o .numbers)) r ≡ got es q →
-    entryIn (leastAfter (lowIn (o .type) (o .numbers)) es) (highIn (o .type) (o .numbers)) q ≡ lost →
-    restOf (seekMessage s) ≡ restOf (seekEntry (leastAfter (lowIn (o .type) (o .numbers)) es) (highIn (o .type) (o .numbers)) q)
-unfolding seekMessage seekAfter
-entry-wrong s {o} {r} n e more f l =
-    let low = lowIn (o .type) (o .numbers) in
-    let high = highIn (o .type) (o .numbers) in
-    let count = countIn (o .type) (o .numbers) in
-    rest-found _ (found-back opening seekOpening seeks-opening s e)
-    ∙ rest-pure _ (seekEntries count low high r)
-    ∙ entries-wrong n count low high r (opening-open s e (omega arith)) more f l
+-- If an opening is read, the message is wrong where the entries behind it are.
+pub opening-right : (s : List ℕ) {o : Opening} {r : List ℕ} → opening s ≡ got o r → restOf (seekMessage s) ≡ restOf (seekAfter o r)
+unfolding seekMessage
+opening-right s {o} {r} e = rest-got opening seekOpening seeks-opening _ s e ∙ rest-pure _ (seekAfter o r)
 
 -- ---- messages
 

@@ -5,14 +5,18 @@ use mathlib.Core.List.{List, [], _∷_, _++_}
 use mathlib.Core.Path.{_∙_, _≡_, ap, ap₂, refl, sym}
 use native.Mathlib.Omega.{arith}
 use Rattle.command.specs.Entry.{Entry}
-use Rattle.text.proofs.CaseLaws.{number-is, number-bad}
 use Rattle.text.proofs.ReaderLaws.{got-rest, got-value, lost-never, onward-assoc, onward-got, onward-lost, onward-pure, onward-same, onward-sound}
-use Rattle.text.specs.Found.{FoundNumber}
 use Rattle.text.specs.Reader.{Got, got, lost, onward, pure}
 use Rattle.message.specs.Range.{entriesIn, entryIn, leastAfter}
+use Rattle.begins.specs.Seek.{restOf}
+use Rattle.begins.specs.Entries.{seekEntry, seekEntries}
+use Rattle.begins.proofs.AgreeLaws.{entries-wrong, least-open}
+use Rattle.seek.specs.Spotted.{ReadNumber}
+use Rattle.seek.specs.declared.NumberAt.{NumberAt}
+use Rattle.seek.specs.declared.NumberAt.the-variants.{Is, Wrong}
+use Rattle.seek.specs.declared.TextAt.the-variants.{Is as TextAt·Is, Wrong as TextAt·Wrong}
+use Rattle.seek.proofs.SoughtLaws.{read-is, read-wrong, ends-same}
 use Rattle.entries.specs.Found.{FoundEntries, termOf}
-use Rattle.text.specs.declared.Number.{Number}
-use Rattle.text.specs.declared.Number.the-variants.{Is as Number·Is, Bad as Number·Bad}
 
 -- What is read behind entries: so many more, their terms from where those ended.
 entriesIn-more
@@ -66,49 +70,46 @@ walking-none s at count low high h = record { inside = h; most = omega arith; be
 
 module _ {s : List ℕ} {at count low high next read least : ℕ} (h : Walking s at count low high next read least) where
   -- No line is left.
-  pub walking-done : (read < count → ⊥) → FoundEntries s at count low high (record { read = read; next = next; least = least })
+  pub walking-done : (read < count → ⊥) → FoundEntries s at count low high (TextAt·Is next)
   walking-done done =
       let all : read ≡ count = omega (arith, h .most, done) in
-      record {
-        inside = h .inside;
-        most = h .most;
-        before = h .before;
-        so-far = h .so-far;
-        least-is = h .least-is;
-        stuck = λ less. absurd (less all);
-        refused = λ less. absurd (less all);
-      }
+      record { entries = h .before; found = record { inside = h .inside; read = ap (λ (n : ℕ). entriesIn n low high (drop at s)) (sym all) ∙ h .so-far } }
 
-  module _ (more : read < count) (r : Number) (found : FoundNumber s (termOf (entryIn least high (drop next s))) r) where
-    -- The next line is none.
-    pub walking-stuck : r ≡ Number·Bad → FoundEntries s at count low high (record { read = read; next = next; least = least })
-    unfolding entriesIn
-    walking-stuck e =
-        let none : entryIn (leastAfter low (h .before)) high (drop next s) ≡ lost = rw (← h .least-is) (termOf-lost _ (number-bad s _ r found e)) in
-        let left : count ≡ read + suc (count - read - 1) = omega arith in
-        record {
-          inside = h .inside;
-          most = h .most;
-          before = h .before;
-          so-far = h .so-far;
-          least-is = h .least-is;
-          stuck = λ _. rw (h .least-is) none;
-          refused = λ _. rw left (entriesIn-more read (suc (count - read - 1)) low high (drop at s) (h .so-far) ∙ onward-lost _ (onward-lost _ none));
-        }
+  -- The next line may have some term.
+  pub walking-open : low ≤ high → least ≤ high
+  walking-open open-range = rw (h .least-is) (least-open read low high (drop at s) open-range (h .so-far))
 
-    -- The next line was read.
-    pub walking-again : {x n : ℕ} → r ≡ Number·Is x n → Walking s at count low high n (read + 1) x
-    unfolding entriesIn leastAfter
-    walking-again {x} {n} e =
-        let f = number-is s _ r found x n e in
-        let w = onward-sound (f .read) in
-        let is : entryIn least high (drop next s) ≡ got (w .value) (drop n s) = w .first ∙ ap (got (w .value)) (got-rest (w .next)) in
-        let one : entriesIn 1 (leastAfter low (h .before)) high (drop next s) ≡ got (w .value ∷ []) (drop n s) =
-        rw (← h .least-is) (onward-got _ is ∙ onward-got _ refl) in
-        record {
-          inside = f .inside;
-          most = omega arith;
-          before = h .before ++ (w .value ∷ []);
-          so-far = entriesIn-more read 1 low high (drop at s) (h .so-far) ∙ onward-got _ one;
-          least-is = sym (got-value (w .next)) ∙ sym (least-last low (h .before) (w .value));
-        }
+  module _
+      (more : read < count) (open-range : low ≤ high) (r : NumberAt)
+      (found : ReadNumber s (termOf (entryIn least high (drop next s))) (seekEntry least high (drop next s)) r)
+    where
+      -- The next line is none: its first wrong byte is that of all lines.
+      pub walking-stuck : {p : ℕ} → r ≡ Wrong p → FoundEntries s at count low high (TextAt·Wrong p)
+      unfolding entriesIn
+      walking-stuck e =
+          let missed = read-wrong s _ _ r found e in
+          let none : entryIn (leastAfter low (h .before)) high (drop next s) ≡ lost = rw (← h .least-is) (termOf-lost _ (missed .refused)) in
+          let left : count ≡ read + suc (count - read - 1) = omega arith in
+          let sought : restOf (seekEntries count low high (drop at s)) ≡ restOf (seekEntry least high (drop next s)) =
+          rw (h .least-is) (entries-wrong read count low high (drop at s) open-range more (h .so-far) none) in
+          record {
+            refused = rw left (entriesIn-more read (suc (count - read - 1)) low high (drop at s) (h .so-far) ∙ onward-lost _ (onward-lost _ none));
+            ends = ends-same sought (missed .ends);
+          }
+
+      -- The next line was read.
+      pub walking-again : {x n : ℕ} → r ≡ Is x n → Walking s at count low high n (read + 1) x
+      unfolding entriesIn leastAfter
+      walking-again {x} {n} e =
+          let f = read-is s _ _ r found e in
+          let w = onward-sound (f .read) in
+          let is : entryIn least high (drop next s) ≡ got (w .value) (drop n s) = w .first ∙ ap (got (w .value)) (got-rest (w .next)) in
+          let one : entriesIn 1 (leastAfter low (h .before)) high (drop next s) ≡ got (w .value ∷ []) (drop n s) =
+          rw (← h .least-is) (onward-got _ is ∙ onward-got _ refl) in
+          record {
+            inside = f .inside;
+            most = omega arith;
+            before = h .before ++ (w .value ∷ []);
+            so-far = entriesIn-more read 1 low high (drop at s) (h .so-far) ∙ onward-got _ one;
+            least-is = sym (got-value (w .next)) ∙ sym (least-last low (h .before) (w .value));
+          }

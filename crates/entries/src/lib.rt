@@ -5,11 +5,15 @@ ghost use Prim.Native.Nat.{_≤_};
 ghost use lib.ListN.{length, drop};
 ghost use Rattle.kinds.specs.Sizes.{term-most};
 ghost use Rattle.text.specs.Reader.{lost};
-ghost use Rattle.text.specs.Found.{FoundNumber};
 ghost use Rattle.message.specs.Range.{entryIn};
 ghost use Rattle.message.specs.Walk.{entryLine};
-ghost use Rattle.entries.specs.Found.{FoundEntry, FoundEntries, termOf};
+ghost use Rattle.begins.specs.Digits.{seekNumber};
+ghost use Rattle.begins.specs.Entries.{seekEntry};
+ghost use Rattle.seek.specs.Spotted.{Ends, ReadNumber};
+ghost use Rattle.entries.specs.Found.{FoundEntry, FoundTail, FoundEntries, termOf};
 use kinds::Term;
+use seek::NumberAt;
+use seek::TextAt;
 use text::Next;
 use text::Number;
 
@@ -27,14 +31,6 @@ pub enum EntryAt {
         next: usize,
     },
     End,
-}
-
-// How many entry lines were read, the place past them, and the least term that may follow. Where there are fewer than were asked for, the next line begins
-// there, and it is none.
-pub struct Entries {
-    pub read: u32,
-    pub next: usize,
-    pub least: u32,
 }
 
 // The bytes of the key `entry=`.
@@ -64,47 +60,72 @@ pub fn next_entry(s: &[u8], at: usize) -> EntryAt
     }
 }
 
-// The entry line at a place, its term in low..high and its command legal: its term, and the place past it.
-fn entry_in(s: &[u8], at: usize, low: u32, high: u32) -> Number
+// Whether the digits of a legal command and the end of its line stand at a place.
+fn is_tail(s: &[u8], at: usize) -> bool
     requires { ⌜ at ≤ length (now s) ⌝ }
-    ensures { λ r. ⌜ FoundNumber (now (s .entry)) (termOf (entryIn low high (drop at (now (s .entry))))) r ⌝ }
+    ensures { λ r. ⌜ FoundTail (now (s .entry)) at r ⌝ }
+{
+    if s.len() - at < TAIL {
+        return false;
+    }
+    if !digits::are_legal(s, at) {
+        return false;
+    }
+    s[at + digits::MANY] == text::LF
+}
+
+// The first wrong byte of a term that is none. (A function of its own, since a slice that a loop hands to a far call has to lie in memory: D57.)
+fn wrong_term(s: &[u8], at: usize, low: u32, high: u32) -> usize
+    requires { ⌜ at ≤ length (now s) ⌝ }
+    ensures { λ r. ⌜ Ends (now (s .entry)) (seekNumber low high 58 (drop at (now (s .entry)))) r ⌝ }
+{
+    seek::number_place(s, at, low, high, COLON)
+}
+
+// The entry line at a place, its term in low..high and its command legal: its term, and the place past it; or that of its first wrong byte, looked for in
+// the part that is none.
+fn entry_in(s: &[u8], at: usize, low: u32, high: u32) -> NumberAt
+    requires { ⌜ (at ≤ length (now s)) × (low ≤ high) ⌝ }
+    ensures { λ r. ⌜ ReadNumber (now (s .entry)) (termOf (entryIn low high (drop at (now (s .entry))))) (seekEntry low high (drop at (now (s .entry)))) r ⌝ }
 {
     let Next::At(p) = scan::stands(s, at, b"entry=") else {
-        return Number::Bad;
+        return NumberAt::Wrong {
+            place: seek::literal_place(s, at, b"entry="),
+        };
     };
     let Number::Is { value, next } = scan::number_in(s, p, low, high, COLON) else {
-        return Number::Bad;
+        return NumberAt::Wrong {
+            place: wrong_term(s, p, low, high),
+        };
     };
-    if s.len() - next < TAIL {
-        return Number::Bad;
+    if !is_tail(s, next) {
+        return NumberAt::Wrong {
+            place: commandplace::tail_place(s, next),
+        };
     }
-    if !digits::are_legal(s, next) {
-        return Number::Bad;
-    }
-    if s[next + digits::MANY] != text::LF {
-        return Number::Bad;
-    }
-    Number::Is {
+    NumberAt::Is {
         value,
         next: next + TAIL,
     }
 }
 
-// So many entry lines, their terms from low on and never falling, up to the first that is none.
-pub fn entries_in(s: &[u8], at: usize, count: u32, low: u32, high: u32) -> Entries
-    requires { ⌜ at ≤ length (now s) ⌝ }
+// So many entry lines, their terms from low on and never falling: the place past them, or that of their first wrong byte.
+pub fn entries_in(s: &[u8], at: usize, count: u32, low: u32, high: u32) -> TextAt
+    requires { ⌜ (at ≤ length (now s)) × (low ≤ high) ⌝ }
     ensures { λ r. ⌜ FoundEntries (now (s .entry)) at count low high r ⌝ }
 {
     let mut next = at;
     let mut read: u32 = 0;
     let mut least = low;
     while read < count {
-        let Number::Is { value, next: p } = entry_in(s, next, least, high) else {
-            return Entries { read, next, least };
-        };
-        next = p;
-        least = value;
+        match entry_in(s, next, least, high) {
+            NumberAt::Is { value, next: p } => {
+                next = p;
+                least = value;
+            }
+            NumberAt::Wrong { place } => return TextAt::Wrong { place },
+        }
         read += 1;
     }
-    Entries { read, next, least }
+    TextAt::Is { next }
 }

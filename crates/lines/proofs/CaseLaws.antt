@@ -9,7 +9,8 @@ use Rattle.message.specs.Fields.{MessageType}
 use Rattle.message.specs.Opening.{opening}
 use Rattle.message.specs.declared.Fields.{Fields}
 use Rattle.begins.specs.Entries.{seekOpening}
-use Rattle.lines.specs.Found.{FoundKind, Missed, FoundFields}
+use Rattle.seek.specs.Spotted.{Missed}
+use Rattle.lines.specs.Found.{FoundKind, FoundFields}
 use Rattle.fields.specs.Table.{typeIs}
 use Rattle.lines.specs.declared.FieldsAt.{FieldsAt}
 use Rattle.lines.specs.declared.FieldsAt.the-variants.{Are as FieldsAt·Are, Wrong as FieldsAt·Wrong}

@@ -1,4 +1,5 @@
 pub mod CaseLaws
 pub mod TypeLaws
+pub mod FieldLaws
 pub mod LinesLaws
 pub mod OpeningLaws

@@ -6,13 +6,10 @@ use mathlib.Core.Bool.{true, false, true≢false}
 use mathlib.Core.List.{List, [], _∷_, _++_, nil≢cons}
 use mathlib.Core.Path.{_≡_, refl, sym, ap, subst, _∙_}
 use lib.ListN.{length, take, drop, set, take-append-drop}
-use Rattle.text.specs.Found.{FoundNext, FoundNumber}
+use Rattle.text.specs.Found.{FoundNext}
 use Rattle.text.specs.Range.{lineIn}
 use Rattle.text.specs.Reader.{got, lost, literal, onward}
 use Rattle.text.specs.declared.Next.{Next}
-use Rattle.text.specs.declared.Number.{Number}
-use Rattle.text.specs.declared.Number.the-variants.{Is, Bad}
-use Rattle.text.proofs.CaseLaws.{number-is, number-bad}
 use Rattle.text.proofs.ReaderLaws.{onward-got, onward-lost, onward-same, onward-assoc}
 use Rattle.message.specs.Fields.{MessageType, Field as Named, fields, slot, unset, withNumber}
 use Rattle.message.specs.Range.{range, fieldIn, linesIn}
@@ -20,7 +17,10 @@ use Rattle.message.specs.Text.{key}
 use Rattle.begins.specs.Seek.{restOf}
 use Rattle.begins.specs.Lines.{seekLine, seekField}
 use Rattle.begins.proofs.AgreeLaws.{lines-wrong}
-use Rattle.seek.specs.Spotted.{Ends}
+use Rattle.seek.specs.Spotted.{ReadNumber}
+use Rattle.seek.specs.declared.NumberAt.{NumberAt}
+use Rattle.seek.specs.declared.NumberAt.the-variants.{Is, Wrong}
+use Rattle.seek.proofs.SoughtLaws.{read-is, read-wrong}
 use Rattle.lines.specs.Found.{allLines, FoundLines}
 use Rattle.fields.specs.Table.{typeIs, fieldIs, fieldsMany, fieldAfter, fieldAt}
 use Rattle.fields.proofs.TableLaws.{field-at, field-end}
@@ -90,7 +90,8 @@ module _ {s : List ℕ} {at : ℕ} {k : Kind} {ns : List ℕ} {next read : ℕ} 
   module _
       (more : read < fieldsMany k)
       {b : Bounds} (in-range : rangeIs b ≡ range (typeIs k) (fieldIs f) ns)
-      (x : Number) (found : FoundNumber s (lineIn (key (fieldIs f)) (b .lo) (b .hi) (drop next s)) x)
+      (x : NumberAt)
+      (found : ReadNumber s (lineIn (key (fieldIs f)) (b .lo) (b .hi) (drop next s)) (seekLine (key (fieldIs f)) (b .lo) (b .hi) (drop next s)) x)
     where
       -- The line of the next field, as the code reads it.
       line : (r : List ℕ) → fieldIn (typeIs k) (fieldIs f) ns r ≡ lineIn (key (fieldIs f)) (b .lo) (b .hi) r
@@ -101,10 +102,12 @@ module _ {s : List ℕ} {at : ℕ} {k : Kind} {ns : List ℕ} {next read : ℕ} 
       next-field = rw (h .at-field) (field-at k read more)
 
       -- The next line is none: its first wrong byte is that of all lines.
-      pub reading-stuck : x ≡ Bad → {p : ℕ} → Ends s (seekLine (key (fieldIs f)) (b .lo) (b .hi) (drop next s)) p → FoundLines s at k (record { all = false; numbers = ns; next = p })
+      pub reading-stuck : {p : ℕ} → x ≡ Wrong p → FoundLines s at k (record { all = false; numbers = ns; next = p })
       unfolding linesIn
-      reading-stuck bad ends =
-          let none : fieldIn (typeIs k) (fieldIs f) ns (drop next s) ≡ lost = line (drop next s) ∙ number-bad s _ x found bad in
+      reading-stuck e =
+          let missed = read-wrong s _ _ x found e in
+          let ends = missed .ends in
+          let none : fieldIn (typeIs k) (fieldIs f) ns (drop next s) ≡ lost = line (drop next s) ∙ missed .refused in
           let sought : seekField (typeIs k) (fieldIs f) ns (drop next s) ≡ seekLine (key (fieldIs f)) (b .lo) (b .hi) (drop next s) = rw (← in-range) in
           let wrong = lines-wrong (typeIs k) read (drop at s) (h .so-far) next-field none ∙ ap restOf sought ∙ ends .is in
           record {
@@ -116,7 +119,7 @@ module _ {s : List ℕ} {at : ℕ} {k : Kind} {ns : List ℕ} {next read : ℕ} 
       pub reading-again : {v n j : ℕ} {g : Field} → x ≡ Is v n → j ≡ slot (fieldIs f) → g ≡ fieldAfter k f → Reading s at k (set ns j v) n (read + 1) g
       unfolding fieldAt linesIn
       reading-again {v} {n} e there next-is =
-          let held = number-is s _ x found v n e in
+          let held = read-is s _ _ x found e in
           let fs = fields (typeIs k) in
           record {
             inside = held .inside;

@@ -14,9 +14,9 @@ use Rattle.message.specs.declared.Fields.{Fields}
 use Rattle.begins.specs.Types.{seekType}
 use Rattle.begins.specs.Entries.{seekOpening}
 use Rattle.begins.proofs.AgreeLaws.{type-wrong, type-right}
-use Rattle.seek.specs.Spotted.{Ends}
+use Rattle.seek.specs.Spotted.{Ends, Missed}
 use Rattle.lines.proofs.CaseLaws.{kind-bad, kind-is}
-use Rattle.lines.specs.Found.{allLines, FoundKind, FoundLines, Missed}
+use Rattle.lines.specs.Found.{allLines, FoundKind, FoundLines}
 use Rattle.fields.specs.Table.{typeIs, fieldsBy}
 use Rattle.fields.proofs.TableLaws.{fields-numbers}
 use Rattle.fields.specs.declared.Kind.{Kind}

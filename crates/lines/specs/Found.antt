@@ -13,7 +13,7 @@ use Rattle.message.specs.Range.{linesIn}
 use Rattle.begins.specs.Seek.{Sought}
 use Rattle.begins.specs.Lines.{seekLines}
 use Rattle.begins.specs.Entries.{seekOpening}
-use Rattle.seek.specs.Spotted.{Ends}
+use Rattle.seek.specs.Spotted.{Missed}
 use Rattle.fields.specs.Table.{typeIs}
 use Rattle.lines.specs.declared.FieldsAt.{FieldsAt}
 use Rattle.lines.specs.declared.FieldsAt.the-variants.{Are, Wrong}
@@ -26,11 +26,6 @@ use Rattle.lines.specs.declared.Lines.{Lines}
 abbrev pub FoundKind : List ℕ → Got MessageType → KindAt → Type 0
 FoundKind s g (Is k n) = Found s g (typeIs k) n
 FoundKind s g Bad = g ≡ lost
-
--- The reader finds nothing, and p is the place where what is sought is wrong.
-pub record Missed {A : Type 0} (s : List ℕ) (g : Got A) (o : Sought A) (p : ℕ) : Type 0 where
-  pub refused : g ≡ lost
-  pub ends : Ends s o p
 
 -- A type and all numbers.
 abbrev pub FoundFields : List ℕ → FieldsAt → Type 0

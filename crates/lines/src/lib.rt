@@ -4,13 +4,17 @@ ghost use lib.ListN.{length, drop};
 ghost use Rattle.message.specs.Text.{key, typeAmong, types};
 ghost use Rattle.message.specs.Opening.{typeLine};
 ghost use Rattle.fields.specs.Table.{fieldIs};
+ghost use Rattle.begins.specs.Digits.{seekNumber};
+ghost use Rattle.begins.specs.Lines.{seekLine};
 ghost use Rattle.lines.specs.Found.{FoundKind, FoundFields, FoundLines};
-ghost use Rattle.text.specs.Found.{FoundNext, FoundNumber};
+ghost use Rattle.seek.specs.Spotted.{Ends, ReadNumber};
+ghost use Rattle.text.specs.Found.{FoundNext};
 ghost use Rattle.text.specs.Range.{lineIn};
 ghost use Rattle.text.specs.Reader.{literal};
 use fields::Field;
 use fields::Kind;
 use message::Fields;
+use seek::NumberAt;
 use text::Next;
 use text::Number;
 
@@ -112,18 +116,33 @@ fn key_in(s: &[u8], at: usize, field: Field) -> Next
     }
 }
 
-// The line of a field, its number in lo..hi.
-fn field_in(s: &[u8], at: usize, field: Field, lo: u32, hi: u32) -> Number
+// The first wrong byte of a line's number that is none. (A function of its own, since a slice that a loop hands to a far call has to lie in memory: D57.)
+fn wrong_number(s: &[u8], at: usize, lo: u32, hi: u32) -> usize
     requires { ⌜ at ≤ length (now s) ⌝ }
-    ensures { λ r. ⌜ FoundNumber (now (s .entry)) (lineIn (key (fieldIs field)) lo hi (drop at (now (s .entry)))) r ⌝ }
+    ensures { λ r. ⌜ Ends (now (s .entry)) (seekNumber lo hi 10 (drop at (now (s .entry)))) r ⌝ }
 {
-    let Next::At(p) = key_in(s, at, field) else {
-        return Number::Bad;
-    };
-    scan::number_in(s, p, lo, hi, text::LF)
+    seek::number_place(s, at, lo, hi, text::LF)
 }
 
-// The lines of a type's fields, in order. Only in the first that is none is a wrong byte looked for.
+// The line of a field, its number in lo..hi: what it says, and the place past it; or that of its first wrong byte, looked for in the part that is none.
+fn field_in(s: &[u8], at: usize, field: Field, lo: u32, hi: u32) -> NumberAt
+    requires { ⌜ at ≤ length (now s) ⌝ }
+    ensures { λ r. ⌜ ReadNumber (now (s .entry)) (lineIn (key (fieldIs field)) lo hi (drop at (now (s .entry)))) (seekLine (key (fieldIs field)) lo hi (drop at (now (s .entry)))) r ⌝ }
+{
+    let Next::At(p) = key_in(s, at, field) else {
+        return NumberAt::Wrong {
+            place: keyplace::key_place(s, at, field),
+        };
+    };
+    let Number::Is { value, next } = scan::number_in(s, p, lo, hi, text::LF) else {
+        return NumberAt::Wrong {
+            place: wrong_number(s, p, lo, hi),
+        };
+    };
+    NumberAt::Is { value, next }
+}
+
+// The lines of a type's fields, in order, up to the first that is none.
 fn lines_in(s: &[u8], at: usize, kind: Kind) -> Lines
     requires { ⌜ at ≤ length (now s) ⌝ }
     ensures { λ r. ⌜ FoundLines (now (s .entry)) at kind r ⌝ }
@@ -135,16 +154,20 @@ fn lines_in(s: &[u8], at: usize, kind: Kind) -> Lines
     let most = fields::fields_many(kind);
     while read < most {
         let r = ranges::range_of(kind, field, &numbers);
-        let Number::Is { value, next: p } = field_in(s, next, field, r.lo, r.hi) else {
-            return Lines {
-                all: false,
-                numbers,
-                next: fieldplace::field_place(s, next, field, r.lo, r.hi),
-            };
-        };
-        let slot = fields::slot_of(field);
-        numbers[slot] = value;
-        next = p;
+        match field_in(s, next, field, r.lo, r.hi) {
+            NumberAt::Is { value, next: p } => {
+                let slot = fields::slot_of(field);
+                numbers[slot] = value;
+                next = p;
+            }
+            NumberAt::Wrong { place } => {
+                return Lines {
+                    all: false,
+                    numbers,
+                    next: place,
+                };
+            }
+        }
         read += 1;
         field = fields::after(kind, field);
     }

@@ -21,7 +21,7 @@ use Rattle.message.specs.Fields.{countIn, messageOf}
 use Rattle.message.specs.Message.{entriesOf, Message as Said}
 use Rattle.message.specs.Opening.{opening}
 use Rattle.message.specs.Place.{BeginsMessage, RefusedAt}
-use Rattle.message.specs.Range.{entriesIn, entryIn, highIn, leastAfter, lowIn, messageIn}
+use Rattle.message.specs.Range.{entriesIn, highIn, lowIn, messageIn}
 use Rattle.message.specs.Text.{entries, entriesText, partFrom, partTo, read}
 use Rattle.message.specs.declared.Fields.{Fields}
 use Rattle.message.proofs.AnswerLaws.{entriesOf-said, fields-back, manyIn-count, messageBy-numbers}
@@ -29,17 +29,17 @@ use Rattle.message.proofs.PlaceLaws.{no-place, placeWith-one, refused-within, w
 use Rattle.message.proofs.RangeLaws.{entriesIn-is, kept, messageIn-whole}
 use Rattle.message.proofs.TextLaws.{entries-sound}
 use Rattle.begins.specs.Seek.{placeOf, restOf}
-use Rattle.begins.specs.Entries.{seekEntries, seekEntry, seekMessage, seekOpening}
-use Rattle.begins.proofs.AgreeLaws.{entries-wrong, entry-wrong, least-open, message-more, opening-wrong}
+use Rattle.begins.specs.Entries.{seekAfter, seekMessage, seekOpening}
+use Rattle.begins.proofs.AgreeLaws.{message-more, opening-right, opening-wrong}
 use Rattle.begins.proofs.MeaningLaws.{message-place}
 use Rattle.begins.proofs.MessageLaws.{entriesAfter, messageIn-opening, opening-open}
-use Rattle.seek.specs.Spotted.{Ends}
+use Rattle.seek.specs.Spotted.{Missed}
+use Rattle.seek.specs.declared.TextAt.{TextAt}
+use Rattle.seek.specs.declared.TextAt.the-variants.{Is, Wrong}
 use Rattle.entries.specs.Found.{FoundEntries}
-use Rattle.entries.specs.declared.Entries.{Entries}
-use Rattle.lines.specs.Found.{Missed}
 use Rattle.span.specs.Span.{spanOf}
 use Rattle.span.specs.declared.Span.{Span}
-use Rattle.reader.specs.Answer.{endedAt, Opened, outcomeOf, readAs, readOutcome, Reads}
+use Rattle.reader.specs.Answer.{endedAt, enteredAt, Opened, outcomeOf, readAs, readOutcome, Reads}
 use Rattle.reader.specs.declared.Read.{Read}
 use Rattle.reader.specs.declared.Read.the-variants.{Message as Read·Message, Refused}
 
@@ -119,6 +119,19 @@ module _ (f : Fields) (entries : ℕ) {many end : ℕ} where
   unfolding endedAt
   ended-whole same = rw (eq-eqb end many same)
 
+-- ---- what the entries come to
+
+module _ (many : ℕ) (f : Fields) (entries : ℕ) (q : TextAt) where
+  -- They were found.
+  pub entered-is : {end : ℕ} → q ≡ Is end → {r : Read} → r ≡ endedAt many f entries end → r ≡ enteredAt many f entries q
+  unfolding enteredAt
+  entered-is e is = is ∙ ap (enteredAt many f entries) (sym e)
+
+  -- They are wrong.
+  pub entered-wrong : {p : ℕ} → q ≡ Wrong p → Refused p ≡ enteredAt many f entries q
+  unfolding enteredAt
+  entered-wrong e = ap (enteredAt many f entries) (sym e)
+
 -- ---- behind the opening
 
 module _ (s : List ℕ) (f : Fields) (n : ℕ) (o : Opened s f n) where
@@ -133,10 +146,6 @@ module _ (s : List ℕ) (f : Fields) (n : ℕ) (o : Opened s f n) where
 
   from-opening : messageIn s ≡ onward (entriesAfter (openingOf f) (drop n s)) (λ es. pure (messageOf (openingOf f .type) (openingOf f .numbers) es))
   from-opening = messageIn-opening s ∙ onward-got _ (o .found .read)
-
-  -- Entries that are counted have some term.
-  pub terms-open : 0 < count → low ≤ high
-  terms-open = opening-open s (o .found .read)
 
   module _ (es : List Entry) (end : ℕ) (inside : end ≤ length s) (entered : entriesAfter (openingOf f) (drop n s) ≡ got es (drop end s)) where
     abbrev said : Said
@@ -181,45 +190,27 @@ module _ (s : List ℕ) (f : Fields) (n : ℕ) (o : Opened s f n) where
         let nothing : count ≡ 0 = sym (ap (λ (x : Span). x .count) same) ∙ zeroed in
         read-end [] n (o .found .inside) (ap (λ (k : ℕ). entriesIn k low high (drop n s)) nothing)
 
-    module _ (q : Entries) (found : FoundEntries s n (sp .count) (sp .low) (sp .high) q) where
-      held : FoundEntries s n count low high q
+    -- The lines of entries that are counted begin inside the text, and have some term.
+    pub lines-open : (sp .count ≡ 0 → ⊥) → (n ≤ length s) × (sp .low ≤ sp .high)
+    unfolding spanOf
+    lines-open some-count =
+        let counted : 0 < count = positive count (λ z. some-count (ap (λ (x : Span). x .count) same ∙ z)) in
+        (o .found .inside, rw same (opening-open s (o .found .read) counted))
+
+    module _ (many : ℕ) (all : many ≡ sp .count) where
+      held : (q : TextAt) → FoundEntries s n many (sp .low) (sp .high) q → FoundEntries s n count low high q
       unfolding spanOf
-      held = rw same at found
+      held q found = rw (all, same) at found
 
-      -- The next entry line has some term.
-      pub left-open : (sp .count ≡ 0 → ⊥) → q .least ≤ sp .high
-      unfolding spanOf
-      left-open some-count =
-          let counted : 0 < count = positive count (λ z. some-count (ap (λ (x : Span). x .count) same ∙ z)) in
-          let most : sp .high ≡ high = ap (λ (x : Span). x .high) same in
-          rw (most, held .least-is) (least-open (q .read) low high (drop n s) (terms-open counted) (held .so-far))
+      entered : (q : TextAt) → FoundEntries s n count low high q → Reads s (enteredAt (length s) f n q)
+      unfolding enteredAt entriesAfter seekAfter
+      entered (Is end) w = read-end (w .entries) end (w .found .inside) (w .found .read) refl
+      entered (Wrong p) w =
+          refused s (o .short) (from-opening ∙ onward-lost _ (w .refused)) (w .ends .inside) (opening-right s (o .found .read) ∙ w .ends .is)
 
-      -- The entries are not all there, or not legal.
-      pub read-no-entries :
-          (q .read ≡ sp .count → ⊥) → {left p : ℕ} → left ≡ sp .count - q .read
-          → Ends s (seekEntries left (q .least) (sp .high) (drop (q .next) s)) p → Reads s (Refused p)
-      unfolding spanOf entriesAfter entriesIn leastAfter
-      read-no-entries less {left} {p} left-is ends =
-          let many : sp .count ≡ count = ap (λ (x : Span). x .count) same in
-          let top : sp .high ≡ high = ap (λ (x : Span). x .high) same in
-          let other : q .read ≡ count → ⊥ = λ e. less (e ∙ sym many) in
-          let fewer : q .read < count = omega (arith, other, held .most) in
-          let opened = terms-open (omega (arith, fewer)) in
-          let above : q .least ≤ high = rw (held .least-is) (least-open (q .read) low high (drop n s) opened (held .so-far)) in
-          let stuck : entryIn (leastAfter low (held .before)) high (drop (q .next) s) ≡ lost = rw (← held .least-is) (held .stuck other) in
-          let here : restOf (seekEntry (q .least) high (drop (q .next) s)) ≡ restOf (seekEntries left (q .least) (sp .high) (drop (q .next) s)) =
-          rw top (sym (entries-wrong 0 left (q .least) high (drop (q .next) s) above (omega (arith, fewer, left-is, many)) refl (held .stuck other))) in
-          refused s (o .short) (from-opening ∙ onward-lost _ (held .refused other)) (ends .inside)
-          (entry-wrong s (q .read) (o .found .read) fewer (held .so-far) stuck
-          ∙ ap (λ (x : ℕ). restOf (seekEntry x high (drop (q .next) s))) (sym (held .least-is))
-          ∙ here ∙ ends .is)
-
-      -- They are all there.
-      pub read-entries : q .read ≡ sp .count → {r : Read} → r ≡ endedAt (length s) f n (q .next) → Reads s r
-      unfolding spanOf entriesAfter
-      read-entries all =
-          let many : q .read ≡ count = all ∙ ap (λ (x : Span). x .count) same in
-          read-end (held .before) (q .next) (held .inside) (ap (λ (k : ℕ). entriesIn k low high (drop n s)) (sym many) ∙ held .so-far)
+      -- The entries are there or not.
+      pub read-entries : (q : TextAt) → FoundEntries s n many (sp .low) (sp .high) q → {r : Read} → r ≡ enteredAt (length s) f n q → Reads s r
+      read-entries q found is = subst (Reads s) (sym is) (entered q (held q found))
 
 -- ---- what a refusal says
 

@@ -15,6 +15,8 @@ use Rattle.message.specs.Opening.{opening}
 use Rattle.message.specs.Place.{PlaceWith}
 use Rattle.message.specs.Text.{read, partFrom}
 use Rattle.message.specs.declared.Fields.{Fields}
+use Rattle.seek.specs.declared.TextAt.{TextAt}
+use Rattle.seek.specs.declared.TextAt.the-variants.{Is, Wrong}
 use Rattle.reader.specs.declared.Read.{Read}
 use Rattle.reader.specs.declared.Read.the-variants.{Message as Read·Message, Refused}
 
@@ -50,3 +52,8 @@ pub record Opened (s : List ℕ) (f : Fields) (n : ℕ) : Type 0 where
 -- A message whose lines end at a place: refused there, if more text follows.
 unfoldable pub endedAt : ℕ → Fields → ℕ → ℕ → Read
 endedAt many f entries end = cond (eqb end many) (Read·Message f entries) (Refused end)
+
+-- A message whose entry lines were found; or refused where they are wrong.
+unfoldable pub enteredAt : ℕ → Fields → ℕ → TextAt → Read
+enteredAt many f entries (Is end) = endedAt many f entries end
+enteredAt many f entries (Wrong p) = Refused p

@@ -3,10 +3,11 @@ ghost use Prim.Native.Nat.{_≤_};
 ghost use lib.ListN.{length};
 ghost use mathlib.Core.Path.{_≡_};
 ghost use Rattle.message.specs.Text.{read, partFrom, partTo};
-ghost use Rattle.reader.specs.Answer.{endedAt, Opened, Reads};
+ghost use Rattle.reader.specs.Answer.{endedAt, enteredAt, Opened, Reads};
 ghost use Rattle.reader.specs.Part.{IsPart, IsRest};
 use lines::FieldsAt;
 use message::Fields;
+use seek::TextAt;
 
 // What reading a message finds: its fields, and where its entry lines begin. Refused is outcome 4, with the place of the first wrong byte.
 pub enum Read {
@@ -24,24 +25,40 @@ fn ended(s: &[u8], fields: Fields, entries: usize, end: usize) -> Read
     Read::Message { fields, entries }
 }
 
+// A message whose entry lines were found; or refused where they are wrong.
+fn entered(s: &[u8], fields: Fields, entries: usize, found: TextAt) -> Read
+    ensures { λ r. ⌜ r ≡ enteredAt (length (now (s .entry))) fields entries found ⌝ }
+{
+    match found {
+        TextAt::Is { next } => ended(s, fields, entries, next),
+        TextAt::Wrong { place } => Read::Refused { place },
+    }
+}
+
 // Reads on behind the lines before the entries, which say these fields and end at `next`.
 fn read_entries(s: &[u8], fields: Fields, next: usize) -> Read
     requires { ⌜ Opened (now s) fields next ⌝ }
     ensures { λ r. ⌜ Reads (now (s .entry)) r ⌝ }
 {
     let span = span::span_of(fields);
-    // Most messages have no entries: nothing is called for them.
+    // Most messages have no entries: nothing is called for them. Most others have one; and two calls of `entries_in` leave its loop by itself (D57).
     if span.count == 0 {
         return ended(s, fields, next, next);
     }
-    let found = entries::entries_in(s, next, span.count, span.low, span.high);
-    if found.read != span.count {
-        let left = span.count - found.read;
-        return Read::Refused {
-            place: entryplace::entries_place(s, found.next, left, found.least, span.high),
-        };
+    if span.count == 1 {
+        return entered(
+            s,
+            fields,
+            next,
+            entries::entries_in(s, next, 1, span.low, span.high),
+        );
     }
-    ended(s, fields, next, found.next)
+    entered(
+        s,
+        fields,
+        next,
+        entries::entries_in(s, next, span.count, span.low, span.high),
+    )
 }
 
 // Reads a message: its fields, and where its entry lines begin in the text. They go to the text's end. The place of a wrong byte is looked for only once

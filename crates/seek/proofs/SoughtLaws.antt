@@ -3,8 +3,10 @@ use Prim.Native.Nat.{ℕ, _≤_}
 use mathlib.Core.List.{List}
 use mathlib.Core.Path.{_≡_, refl, _∙_, ap, subst}
 use lib.ListN.{length, drop}
+use Rattle.text.specs.Found.{Found}
+use Rattle.text.specs.Reader.{Got}
 use Rattle.begins.specs.Seek.{Sought, found, wrong, Seeker, on, restOf}
-use Rattle.seek.specs.Spotted.{At, SpottedText, SpottedNumber, Ends}
+use Rattle.seek.specs.Spotted.{At, SpottedText, SpottedNumber, Ends, Missed, ReadNumber}
 use Rattle.seek.specs.declared.NumberAt.{NumberAt}
 use Rattle.seek.specs.declared.NumberAt.the-variants.{Is, Wrong}
 use Rattle.seek.specs.declared.TextAt.{TextAt}
@@ -80,8 +82,35 @@ module _ (s : List ℕ) (g : Sought (Unit {0})) (x : TextAt) (h : SpottedText s 
   pub text-stop : {n : ℕ} → x ≡ TextAt·Wrong n → Ends s g n
   text-stop e = ends-wrong (text-wrong s g x h e)
 
+-- A number.
+module _ (s : List ℕ) (g : Sought ℕ) (x : NumberAt) (h : SpottedNumber s g x) where
+  -- It was found.
+  pub number-past : {v n : ℕ} → x ≡ Is v n → Ends s g n
+  number-past e = ends-found (number-is s g x h e)
+
+  -- It is wrong.
+  pub number-stop : {n : ℕ} → x ≡ Wrong n → Ends s g n
+  number-stop e = ends-wrong (number-wrong s g x h e)
+
 -- What is only told ends where it was found.
 pub rest-told : {A B : Type 0} (f : A → B) (g : Sought A) → restOf (on g (λ a. found (f a))) ≡ restOf g
 unfolding on restOf
 rest-told f (found a r) = refl
 rest-told f (wrong r) = refl
+
+-- So does what is only told of two, one behind the other.
+pub rest-told-two : {A B C : Type 0} (f : A → B → C) (h : A → Seeker B) (g : Sought A) → restOf (on g (λ a r. on (h a r) (λ b. found (f a b)))) ≡ restOf (on g h)
+unfolding on restOf
+rest-told-two f h (found a r) = rest-told (f a) (h a r)
+rest-told-two f h (wrong r) = refl
+
+-- ---- a number that a reader reads
+
+module _ {A : Type 0} (s : List ℕ) (g : Got ℕ) (o : Sought A) (x : NumberAt) (h : ReadNumber s g o x) where
+  -- It was read.
+  pub read-is : {v n : ℕ} → x ≡ Is v n → Found s g v n
+  read-is e = subst (λ (y : NumberAt). ReadNumber s g o y) e h
+
+  -- It was not.
+  pub read-wrong : {p : ℕ} → x ≡ Wrong p → Missed s g o p
+  read-wrong e = subst (λ (y : NumberAt). ReadNumber s g o y) e h

@@ -163,3 +163,14 @@ pub fn number_at(s: &[u8], at: usize, lo: u32, hi: u32, end: u8) -> NumberAt
     }
     more_at(s, at + 1, lo, hi, end, first as u32)
 }
+
+// The place past a number, or that of its first wrong byte.
+pub fn number_place(s: &[u8], at: usize, lo: u32, hi: u32, end: u8) -> usize
+    requires { ⌜ at ≤ length (now s) ⌝ }
+    ensures { λ r. ⌜ Ends (now (s .entry)) (seekNumber lo hi end (drop at (now (s .entry)))) r ⌝ }
+{
+    match number_at(s, at, lo, hi, end) {
+        NumberAt::Is { value: _, next } => next,
+        NumberAt::Wrong { place } => place,
+    }
+}

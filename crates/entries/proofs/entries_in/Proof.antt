@@ -3,7 +3,7 @@
 use Prim.Native.Nat.{_-_}
 use native.Mathlib.Omega.{arith}
 use borrow.Author.Needs.{needs}
-use Rattle.entries.proofs.EntryLaws.{Walking, walking-none, walking-done, walking-stuck, walking-again}
+use Rattle.entries.proofs.EntryLaws.{Walking, walking-none, walking-done, walking-open, walking-stuck, walking-again}
 use Rattle.entries.proofs.entries_in.Statement.{statement}
 use Rattle.entries.proofs.entries_in.Tie as tie
 
@@ -17,22 +17,19 @@ abbrev μ-loop : tie.MeasureT-loop
 begins : tie.Need-loop-holds Inv-loop μ-loop
 begins c =
     let start = c .before in
-    walking-none (start .args .s .now) (start .args .at) (start .args .count) (start .args .low) (start .args .high) (start .pre)
+    walking-none (start .args .s .now) (start .args .at) (start .args .count) (start .args .low) (start .args .high) (start .pre .0)
+
+-- The next line begins inside the text, and may have some term.
+next-line : tie.Need-entry-in-requires Inv-loop μ-loop
+next-line c κs = (search needs, search (needs, walking-open))
 
 -- The next line is none.
 stuck : tie.Need-returns Inv-loop μ-loop
-stuck c =
-    let at-entry-in = c .before .before in
-    let at-loop-test = at-entry-in .before in
-    walking-stuck (at-loop-test .before .loop .inv) (at-loop-test .loop-test .taken) _ (at-entry-in .entry-in .ensures) (c .enum-told .given .1)
+stuck c = search (needs, walking-stuck)
 
 -- It was read.
 again : tie.Need-loop-again Inv-loop μ-loop
-again c =
-    let at-value = c .before in
-    let at-entry-in = at-value .before .before in
-    let at-loop-test = at-entry-in .before in
-    walking-again (at-loop-test .before .loop .inv) (at-loop-test .loop-test .taken) _ (at-entry-in .entry-in .ensures) (at-value .value .given .1)
+again c = search (needs, walking-again)
 
 -- No line is left.
 done : tie.Need-returns-2 Inv-loop μ-loop
@@ -40,5 +37,5 @@ done c = walking-done (c .before .loop .inv) (λ m. omega arith)
 
 pub entries-in-spec : {M : Type 1} → statement M
 entries-in-spec =
-    let begun = tie.spec Inv-loop μ-loop begins (λ c κs. search needs) (λ c. search needs) (λ c. search needs) stuck in
+    let begun = tie.spec Inv-loop μ-loop begins next-line (λ c. search needs) (λ c. search needs) stuck in
     tie.close (begun (λ c. search needs) (λ c. search needs) again done)

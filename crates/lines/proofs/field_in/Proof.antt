@@ -1,24 +1,26 @@
 -- `lines::field_in` meets its contract: the key, then the number. Assumes nothing.
 use borrow.Author.Needs.{needs}
-use Rattle.text.proofs.FoundLaws.{line-none, line-number}
+use Rattle.lines.proofs.FieldLaws.{line-no-key, key-inside, line-no-number, line-read}
 use Rattle.lines.proofs.field_in.Statement.{statement}
 use Rattle.lines.proofs.field_in.Tie as tie
 
 -- Another key stands there.
 no-key : tie.Need-returns
-no-key c = search (needs, line-none)
+no-key c = search (needs, line-no-key)
 
--- The key is there.
-number-line : tie.Need-returns-2
-number-line c = search (needs, line-number)
+-- The key ends inside the text.
+inside : tie.Need-wrong-number-requires
+inside c κs = search (needs, key-inside)
+
+-- No number of the range stands behind it.
+no-number : tie.Need-returns-2
+no-number c = search (needs, line-no-number)
+
+-- It does.
+number : tie.Need-returns-3
+number c = search (needs, line-read)
 
 pub field-in-spec : {M : Type 1} → statement M
 field-in-spec =
-    tie.close
-    (tie.spec
-    (λ c κs. search needs)
-    (λ c. search needs)
-    (λ c. search needs)
-    no-key
-    (λ c κs. search needs)
-    number-line)
+    let first = tie.spec (λ c κs. search needs) (λ c. search needs) (λ c. search needs) (λ c κs. search needs) no-key (λ c κs. search needs) in
+    tie.close (first (λ c. search needs) (λ c. search needs) inside no-number number)

@@ -23,18 +23,15 @@ begins c =
     let args = c .before .before .args in
     (c .fields-many .ensures, refl, reading-none (args .s .now) (args .at) (args .kind) (search needs))
 
--- The next line begins inside the text.
-inside : tie.Need-field-place-requires Inv-loop μ-loop
-inside c κs = search needs
-
 -- The next line is none.
 stuck : tie.Need-returns Inv-loop μ-loop
 stuck c =
-    let at-field-in = c .before .before .before in
+    let at-place = c .before in
+    let at-field-in = at-place .before .before in
     let at-range-of = at-field-in .before in
     let at-loop = at-range-of .before .before .before in
     reading-stuck (at-loop .loop .inv .2) (omega arith) (at-range-of .range-of .ensures) (at-field-in .field-in .result) (at-field-in .field-in .ensures)
-    (c .before .enum-told .given .1) (c .field-place .ensures)
+    (at-place .place .given .1)
 
 -- It was read.
 again : tie.Need-loop-again Inv-loop μ-loop
@@ -57,5 +54,5 @@ done c = reading-done (c .before .loop .inv .2) (λ m. omega arith)
 pub lines-in-spec : {M : Type 1} → statement M
 lines-in-spec =
     let begun = tie.spec Inv-loop μ-loop (λ c κs. search needs) begins (λ c κs. search needs) (λ c κs. search needs) (λ c. search needs) in
-    let further = begun (λ c. search needs) inside stuck (λ c κs. search needs) (λ c. search needs) (λ c. search needs) (λ c. search needs) in
+    let further = begun (λ c κs. search needs) (λ c. search needs) (λ c. search needs) (λ c. search needs) stuck (λ c. search needs) in
     tie.close (further (λ c κs. search needs) (λ c. search needs) again done)

@@ -11,8 +11,10 @@ at-start : tie.Need-returns
 at-start c =
     let at-enum-told = c .before in
     let at-read-message = at-enum-told .before .before in
-    let start = at-read-message .before .before in
-    part-same (start .args .s) (c .part .result) 0 0 _ _ (c .part .ensures) (part-refused (start .args .s .now) (at-read-message .read-message .ensures .place) (read (start .args .s .now)) (at-read-message .read-message .result) (at-read-message .read-message .ensures .answer) (at-enum-told .enum-told .given .1))
+    let s = at-read-message .before .before .args .s in
+    let told = at-read-message .read-message .ensures in
+    part-same s (c .part .result) 0 0 _ _ (c .part .ensures)
+    (part-refused (s .now) (told .place) (read (s .now)) (at-read-message .read-message .result) (told .answer) (at-enum-told .enum-told .given .1))
 
 -- A message: its entry lines begin in the text and go to its end.
 entry-part : tie.Need-returns-2

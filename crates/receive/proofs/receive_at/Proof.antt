@@ -31,7 +31,8 @@ received c =
     let at-fields = at-lines-of .before .before .before in
     let at-read-message = at-fields .before .before in
     let stands = lines-stand _ _ _ _ (at-read-message .read-message .ensures) (at-fields .fields .given .1) (at-lines-of .lines-of .ensures) in
-    read-hears _ _ _ _ _ (may-be-received (at-receive-message .before) (at-receive-message .receive-message .lifetimes)) (at-receive-message .receive-message .ensures) _ (stands .read-is) (c .packed .ensures)
+    read-hears _ _ _ _ _ (may-be-received (at-receive-message .before) (at-receive-message .receive-message .lifetimes))
+    (at-receive-message .receive-message .ensures) _ (stands .read-is) (c .packed .ensures)
 
 -- The place has its bits.
 placed : tie.Need-placed-requires

@@ -1,3 +1,0 @@
-pub mod HexLaws
-pub mod EntryLaws
-pub mod EntriesLaws
