@@ -112,6 +112,14 @@ module _ (s : List ℕ) (n : ℕ) where
         (λ e. rw e (λ x. record { inside = omega arith; read = ended-legal s x n (omega arith) (sym test ∙ not-false k h) (eqb-true _ _ e) }))
         (λ e. rw e (λ x. ended-other s x n (omega arith) (eqb-false _ _ e)))
 
+-- Where they stand, they are read, and the line ends inside the text.
+module _ (s : List ℕ) (n : ℕ) (t : Bool) (tail : FoundTail s n t) (h : not t ≡ false) where
+  tail-stands : (term : ℕ) → Found s (termOf (tailIn term (drop n s))) term (n + 33)
+  tail-stands = subst (FoundTail s n) (not-false t h) tail
+
+  pub tail-inside : n + 33 ≤ length s
+  tail-inside = tail-stands 0 .inside
+
 -- ---- a line: one law for each answer of the code
 
 -- What is sought behind an entry's term.
@@ -198,9 +206,5 @@ module _ (s : List ℕ) (at low high : ℕ) (r : Next) (key : FoundNext s (liter
           -- They stand there.
           pub entry-is : not t ≡ false → Found s (termOf (entryIn low high (drop at s))) x (n + 33)
           entry-is h =
-              let held : (term : ℕ) → Found s (termOf (tailIn term (drop n s))) term (n + 33) = subst (FoundTail s n) (not-false t h) tail in
-              record { inside = held x .inside; read = ap termOf behind-term ∙ held x .read }
-
-          -- The line ends inside the text.
-          pub line-inside : not t ≡ false → n + 33 ≤ length s
-          line-inside h = entry-is h .inside
+              let held = tail-stands s n t tail h x in
+              record { inside = held .inside; read = ap termOf behind-term ∙ held .read }

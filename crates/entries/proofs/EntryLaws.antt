@@ -70,7 +70,7 @@ walking-none s at count low high h = record { inside = h; most = omega arith; be
 
 module _ {s : List ℕ} {at count low high next read least : ℕ} (h : Walking s at count low high next read least) where
   -- No line is left.
-  pub walking-done : (read < count → ⊥) → FoundEntries s at count low high (TextAt·Is next)
+  pub walking-done : count ≤ read → FoundEntries s at count low high (TextAt·Is next)
   walking-done done =
       let all : read ≡ count = omega (arith, h .most, done) in
       record { entries = h .before; found = record { inside = h .inside; read = ap (λ (n : ℕ). entriesIn n low high (drop at s)) (sym all) ∙ h .so-far } }

@@ -81,14 +81,14 @@ module _ {s : List ℕ} {at : ℕ} {k : Kind} {ns : List ℕ} {next read : ℕ} 
       ∙ onward-got (linesIn (typeIs k) (drop read fs)) (h .so-far)
 
   -- No line is left.
-  pub reading-done : (read < fieldsMany k → ⊥) → FoundLines s at k (record { all = true; numbers = ns; next = next })
+  pub reading-done : {most : ℕ} → most ≡ fieldsMany k → most ≤ read → FoundLines s at k (record { all = true; numbers = ns; next = next })
   unfolding linesIn
-  reading-done done =
-      let e : read ≡ fieldsMany k = omega (arith, h .count, done) in
+  reading-done all done =
+      let e : read ≡ fieldsMany k = omega (arith, h .count, all, done) in
       record { found = λ _. record { inside = h .inside; read = same ∙ rw (e, field-end k) }; missed = λ e. absurd (true≢false e) }
 
   module _
-      (more : read < fieldsMany k)
+      {most : ℕ} (all : most ≡ fieldsMany k) (more : read < most)
       {b : Bounds} (in-range : rangeIs b ≡ range (typeIs k) (fieldIs f) ns)
       (x : NumberAt)
       (found : ReadNumber s (lineIn (key (fieldIs f)) (b .lo) (b .hi) (drop next s)) (seekLine (key (fieldIs f)) (b .lo) (b .hi) (drop next s)) x)
@@ -99,7 +99,7 @@ module _ {s : List ℕ} {at : ℕ} {k : Kind} {ns : List ℕ} {next read : ℕ} 
 
       -- The next field is the first of those that are left.
       next-field : drop read (fields (typeIs k)) ≡ fieldIs f ∷ drop (suc read) (fields (typeIs k))
-      next-field = rw (h .at-field) (field-at k read more)
+      next-field = rw (h .at-field) (field-at k read (subst (λ (m : ℕ). read < m) all more))
 
       -- The next line is none: its first wrong byte is that of all lines.
       pub reading-stuck : {p : ℕ} → x ≡ Wrong p → FoundLines s at k (record { all = false; numbers = ns; next = p })

@@ -19,7 +19,6 @@ use Rattle.command.proofs.Tests.{by-test}
 use Rattle.message.specs.Answer.{manyIn, messageBy, openingOf}
 use Rattle.message.specs.Fields.{countIn, messageOf}
 use Rattle.message.specs.Message.{entriesOf, Message as Said}
-use Rattle.message.specs.Opening.{opening}
 use Rattle.message.specs.Place.{BeginsMessage, RefusedAt}
 use Rattle.message.specs.Range.{entriesIn, highIn, lowIn, messageIn}
 use Rattle.message.specs.Text.{entries, entriesText, partFrom, partTo, read}
@@ -29,13 +28,16 @@ use Rattle.message.proofs.PlaceLaws.{no-place, placeWith-one, refused-within, w
 use Rattle.message.proofs.RangeLaws.{entriesIn-is, kept, messageIn-whole}
 use Rattle.message.proofs.TextLaws.{entries-sound}
 use Rattle.begins.specs.Seek.{placeOf, restOf}
-use Rattle.begins.specs.Entries.{seekAfter, seekMessage, seekOpening}
+use Rattle.begins.specs.Entries.{seekAfter, seekMessage}
 use Rattle.begins.proofs.AgreeLaws.{message-more, opening-right, opening-wrong}
 use Rattle.begins.proofs.MeaningLaws.{message-place}
 use Rattle.begins.proofs.MessageLaws.{entriesAfter, messageIn-opening, opening-open}
-use Rattle.seek.specs.Spotted.{Missed}
 use Rattle.seek.specs.declared.TextAt.{TextAt}
 use Rattle.seek.specs.declared.TextAt.the-variants.{Is, Wrong}
+use Rattle.lines.specs.Found.{FoundFields}
+use Rattle.lines.specs.declared.FieldsAt.{FieldsAt}
+use Rattle.lines.specs.declared.FieldsAt.the-variants.{Are, Wrong as FieldsAt·Wrong}
+use Rattle.lines.proofs.CaseLaws.{fields-are, fields-missed}
 use Rattle.entries.specs.Found.{FoundEntries}
 use Rattle.span.specs.Span.{spanOf}
 use Rattle.span.specs.declared.Span.{Span}
@@ -78,13 +80,6 @@ read-ranged : (s : List ℕ) → length s ≤ text-room → read s ≡ whole (me
 unfolding read
 read-ranged s h = rw (le-leb (length s) text-room h) (messageIn-whole s)
 
--- A longer one is refused.
-pub read-long : (s : List ℕ) (room : ℕ) → room ≡ text-room → room < length s → Reads s (Refused room)
-unfolding read
-read-long s room e h =
-    let long : text-room < length s = omega (arith, e, h) in
-    refused-told s (rw (lt-leb (length s) text-room long)) (record { first-wrong = λ fits. absurd (omega (arith, fits, long)); too-long = λ _. e })
-
 module _ (s : List ℕ) (short : length s ≤ text-room) where
   ranged : read s ≡ whole (messageIn s)
   ranged = read-ranged s short
@@ -101,10 +96,29 @@ module _ (s : List ℕ) (short : length s ≤ text-room) where
   unfolding whole
   refused h {p} inside rest = refused-told s (ranged ∙ rw h) (sought-at p inside rest)
 
-  -- The opening is none.
-  pub read-no-opening : {p : ℕ} → Missed s (opening s) (seekOpening s) p → Reads s (Refused p)
-  read-no-opening missed =
-      refused (messageIn-opening s ∙ onward-lost _ (missed .refused)) (missed .ends .inside) (opening-wrong s (missed .refused) ∙ missed .ends .is)
+-- ---- the limit, and the lines before the entries
+
+module _ (s : List ℕ) (room : ℕ) (e : room ≡ text-room) where
+  -- The text is too long.
+  pub read-long : room < length s → Reads s (Refused room)
+  unfolding read
+  read-long h =
+      let long : text-room < length s = omega (arith, e, h) in
+      refused-told s (rw (lt-leb (length s) text-room long)) (record { first-wrong = λ fits. absurd (omega (arith, fits, long)); too-long = λ _. e })
+
+  module _ (within : length s ≤ room) (r : FieldsAt) (found : FoundFields s r) where
+    short : length s ≤ text-room
+    short = subst (λ (k : ℕ). length s ≤ k) e within
+
+    -- They are there.
+    pub opened : {f : Fields} {n : ℕ} → r ≡ Are f n → Opened s f n
+    opened {f} {n} are = record { short = short; found = fields-are s r found f n are }
+
+    -- One of them is none.
+    pub read-no-opening : {p : ℕ} → r ≡ FieldsAt·Wrong p → Reads s (Refused p)
+    read-no-opening {p} wrong =
+        let missed = fields-missed s r found p wrong in
+        refused s short (messageIn-opening s ∙ onward-lost _ (missed .refused)) (missed .ends .inside) (opening-wrong s (missed .refused) ∙ missed .ends .is)
 
 -- ---- the end of a message's lines
 
@@ -190,17 +204,17 @@ module _ (s : List ℕ) (f : Fields) (n : ℕ) (o : Opened s f n) where
         let nothing : count ≡ 0 = sym (ap (λ (x : Span). x .count) same) ∙ zeroed in
         read-end [] n (o .found .inside) (ap (λ (k : ℕ). entriesIn k low high (drop n s)) nothing)
 
-    -- The lines of entries that are counted begin inside the text, and have some term.
-    pub lines-open : (sp .count ≡ 0 → ⊥) → (n ≤ length s) × (sp .low ≤ sp .high)
+    -- Entries that are counted have some term.
+    pub lines-open : (sp .count ≡ 0 → ⊥) → sp .low ≤ sp .high
     unfolding spanOf
     lines-open some-count =
         let counted : 0 < count = positive count (λ z. some-count (ap (λ (x : Span). x .count) same ∙ z)) in
-        (o .found .inside, rw same (opening-open s (o .found .read) counted))
+        rw same (opening-open s (o .found .read) counted)
 
-    module _ (many : ℕ) (all : many ≡ sp .count) where
+    module _ (many : ℕ) (all : sp .count ≡ many) where
       held : (q : TextAt) → FoundEntries s n many (sp .low) (sp .high) q → FoundEntries s n count low high q
       unfolding spanOf
-      held q found = rw (all, same) at found
+      held q found = rw (sym all, same) at found
 
       entered : (q : TextAt) → FoundEntries s n count low high q → Reads s (enteredAt (length s) f n q)
       unfolding enteredAt entriesAfter seekAfter
@@ -240,8 +254,8 @@ reads-unique {s} p q =
     p .answer ∙ ap (λ (x : ℕ). readAs s x (read s)) (placeWith-one (readOutcome (read s)) s (p .place-is) (q .place-is)) ∙ sym (q .answer)
 
 -- The place has its bits.
-pub place-small : (input : List ℕ) {p : ℕ} → Unread input p → p < places-room
-place-small input u = omega (arith, refused-within input (u .at) .1, room-placed)
+pub place-small : (input : List ℕ) {a : Read} {p : ℕ} → Reads input a → a ≡ Refused p → p < places-room
+place-small input told is = omega (arith, refused-within input (unread-at input told is .at) .1, room-placed)
 
 -- ---- the part that holds the entry lines
 

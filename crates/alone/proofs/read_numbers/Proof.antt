@@ -7,35 +7,23 @@ use Rattle.alone.proofs.read_numbers.Tie as tie
 
 -- Fewer than eight numbers are lent.
 short : tie.Need-returns
-short c = tells-short _ _ (c .if1 .taken)
+short c = search (needs, tells-short)
 
 -- Where the entry lines begin fits.
 small : tie.Need-packed-requires
-small c κs =
-    let at-fields = c .before .before .before .before .before in
-    let at-read = at-fields .before .before in
-    entries-small _ _ _ (at-read .read-message .ensures) (at-fields .fields .given .1)
+small c κs = search (needs, entries-small)
 
 -- The numbers are put.
 put : tie.Need-returns-2
-put c =
-    let at-put = c .before .before .before in
-    let at-fields = at-put .before .before .before in
-    let at-read = at-fields .before .before in
-    tells-message _ _ _ _ (at-read .before .if1 .left) (at-read .read-message .ensures) (at-fields .fields .given .1) (at-put .put-numbers .ensures) (c .packed .ensures)
+put c = search (needs, tells-message)
 
 -- The place has its bits.
 placed : tie.Need-placed-requires
-placed c κs =
-    let at-place = c .before in
-    place-small _ (unread-at _ (at-place .before .before .read-message .ensures) (at-place .place .given .1))
+placed c κs = search (needs, place-small)
 
 -- The text is no legal message.
 refused : tie.Need-returns-3
-refused c =
-    let at-place = c .before .before in
-    let at-read = at-place .before .before in
-    tells-refused _ _ (at-read .before .if1 .left) (unread-at _ (at-read .read-message .ensures) (at-place .place .given .1)) (c .placed .ensures)
+refused c = search (needs, tells-refused, unread-at)
 
 pub read-numbers-spec : {M : Type 1} → statement M
 read-numbers-spec =

@@ -1,7 +1,6 @@
 -- `entries::entries_in` meets its contract. The loop's invariant: so many lines were read, the next begins inside the text, and its term is at
 -- least that of the last. The measure is how many are left. Assumes nothing.
 use Prim.Native.Nat.{_-_}
-use native.Mathlib.Omega.{arith}
 use borrow.Author.Needs.{needs}
 use Rattle.entries.proofs.EntryLaws.{Walking, walking-none, walking-done, walking-open, walking-stuck, walking-again}
 use Rattle.entries.proofs.entries_in.Statement.{statement}
@@ -15,9 +14,7 @@ abbrev μ-loop : tie.MeasureT-loop
 
 -- At first no line was read.
 begins : tie.Need-loop-holds Inv-loop μ-loop
-begins c =
-    let start = c .before in
-    walking-none (start .args .s .now) (start .args .at) (start .args .count) (start .args .low) (start .args .high) (start .pre .0)
+begins c = search (needs, walking-none)
 
 -- The next line begins inside the text, and may have some term.
 next-line : tie.Need-entry-in-requires Inv-loop μ-loop
@@ -33,7 +30,7 @@ again c = search (needs, walking-again)
 
 -- No line is left.
 done : tie.Need-returns-2 Inv-loop μ-loop
-done c = walking-done (c .before .loop .inv) (λ m. omega arith)
+done c = search (needs, walking-done)
 
 pub entries-in-spec : {M : Type 1} → statement M
 entries-in-spec =

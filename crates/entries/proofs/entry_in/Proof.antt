@@ -1,7 +1,7 @@
 -- `entries::entry_in` meets its contract: the parts of a line, one after the other, up to the first that is none. Assumes nothing.
 use native.Mathlib.Omega.{arith}
 use borrow.Author.Needs.{needs}
-use Rattle.entries.proofs.CheckLaws.{entry-no-key, key-inside, entry-no-term, term-inside, entry-no-tail, entry-is, line-inside}
+use Rattle.entries.proofs.CheckLaws.{entry-no-key, key-inside, entry-no-term, term-inside, entry-no-tail, entry-is, tail-inside}
 use Rattle.entries.proofs.entry_in.Statement.{statement}
 use Rattle.entries.proofs.entry_in.Tie as tie
 
@@ -30,21 +30,9 @@ no-tail c = search (needs, entry-no-tail)
 
 -- The line ends inside the text.
 room : tie.Need-add-t21
-room c =
-    let at-is-tail = c .before in
-    let at-value = at-is-tail .before .before in
-    let at-number-in = at-value .before .before in
-    let at-p = at-number-in .before .before in
-    let at-stands = at-p .before .before in
-    let start = at-stands .before .before .before in
-    let args = start .args in
-    omega (
-      arith,
-      line-inside (args .s .now) (args .at) (args .low) (args .high) _ (at-stands .stands .ensures) (at-p .p .given .1) (start .pre .1) _
-          (at-number-in .number-in .ensures) (at-value .value .given .1) (at-is-tail .is-tail .result) (at-is-tail .is-tail .ensures) (c .if1 .left),
-    )
+room c = omega (arith, tail-inside _ _ (c .before .is-tail .result) (c .before .is-tail .ensures) (c .if1 .left))
 
--- It does.
+-- All of it stands there.
 line : tie.Need-returns-4
 line c = search (needs, entry-is)
 

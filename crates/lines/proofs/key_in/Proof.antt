@@ -5,59 +5,37 @@ use Rattle.lines.proofs.key_in.Statement.{statement}
 use Rattle.lines.proofs.key_in.Tie as tie
 
 term-key : tie.Need-returns
-term-key c =
-    let start = c .before .before .before .before .before in
-    key-told (c .before .before .enum-told .given .1) (start .args .s .now) (start .args .at) (c .stands .result) (c .stands .ensures)
+term-key c = search (needs, key-told)
 
 from-key : tie.Need-returns-2
-from-key c =
-    let start = c .before .before .before .before .before in
-    key-told (c .before .before .enum-told2 .given .1) (start .args .s .now) (start .args .at) (c .stands2 .result) (c .stands2 .ensures)
+from-key c = search (needs, key-told)
 
 to-key : tie.Need-returns-3
-to-key c =
-    let start = c .before .before .before .before .before in
-    key-told (c .before .before .enum-told3 .given .1) (start .args .s .now) (start .args .at) (c .stands3 .result) (c .stands3 .ensures)
+to-key c = search (needs, key-told)
 
 last-key : tie.Need-returns-4
-last-key c =
-    let start = c .before .before .before .before .before in
-    key-told (c .before .before .enum-told4 .given .1) (start .args .s .now) (start .args .at) (c .stands4 .result) (c .stands4 .ensures)
+last-key c = search (needs, key-told)
 
 ballot-key : tie.Need-returns-5
-ballot-key c =
-    let start = c .before .before .before .before .before in
-    key-told (c .before .before .enum-told5 .given .1) (start .args .s .now) (start .args .at) (c .stands5 .result) (c .stands5 .ensures)
+ballot-key c = search (needs, key-told)
 
 count-key : tie.Need-returns-6
-count-key c =
-    let start = c .before .before .before .before .before in
-    key-told (c .before .before .enum-told6 .given .1) (start .args .s .now) (start .args .at) (c .stands6 .result) (c .stands6 .ensures)
+count-key c = search (needs, key-told)
 
 prev-key : tie.Need-returns-7
-prev-key c =
-    let start = c .before .before .before .before .before in
-    key-told (c .before .before .enum-told7 .given .1) (start .args .s .now) (start .args .at) (c .stands7 .result) (c .stands7 .ensures)
+prev-key c = search (needs, key-told)
 
 prevterm-key : tie.Need-returns-8
-prevterm-key c =
-    let start = c .before .before .before .before .before in
-    key-told (c .before .before .enum-told8 .given .1) (start .args .s .now) (start .args .at) (c .stands8 .result) (c .stands8 .ensures)
+prevterm-key c = search (needs, key-told)
 
 chosen-key : tie.Need-returns-9
-chosen-key c =
-    let start = c .before .before .before .before .before in
-    key-told (c .before .before .enum-told9 .given .1) (start .args .s .now) (start .args .at) (c .stands9 .result) (c .stands9 .ensures)
+chosen-key c = search (needs, key-told)
 
 end-key : tie.Need-returns-10
-end-key c =
-    let start = c .before .before .before .before .before in
-    key-told (c .before .before .enum-told10 .given .1) (start .args .s .now) (start .args .at) (c .stands10 .result) (c .stands10 .ensures)
+end-key c = search (needs, key-told)
 
 length-key : tie.Need-returns-11
-length-key c =
-    let start = c .before .before .before .before .before in
-    key-told (c .before .before .enum-told11 .given .1) (start .args .s .now) (start .args .at) (c .stands11 .result) (c .stands11 .ensures)
+length-key c = search (needs, key-told)
 
 pub key-in-spec : {M : Type 1} → statement M
 key-in-spec =

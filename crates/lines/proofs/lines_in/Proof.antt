@@ -1,10 +1,9 @@
 -- `lines::lines_in` meets its contract. The loop's invariant: so many lines were read, and what is read from the first on is what is read
 -- from here on. The measure is how many are left. Assumes nothing.
 use Prim.Native.Nat.{_-_}
-use native.Mathlib.Omega.{arith}
 use mathlib.Core.Path.{_≡_, refl}
 use borrow.Author.Needs.{needs}
-use lib.ListN.{length, length-set}
+use lib.ListN.{length}
 use Rattle.lines.proofs.LinesLaws.{Reading, reading-none, reading-stuck, reading-again, reading-done}
 use Rattle.fields.specs.Table.{fieldsMany}
 use Rattle.lines.proofs.lines_in.Statement.{statement}
@@ -19,37 +18,19 @@ abbrev μ-loop : tie.MeasureT-loop
 
 -- At first no line was read.
 begins : tie.Need-loop-holds Inv-loop μ-loop
-begins c =
-    let args = c .before .before .args in
-    (c .fields-many .ensures, refl, reading-none (args .s .now) (args .at) (args .kind) (search needs))
+begins c = (search needs, refl, search (needs, reading-none))
 
 -- The next line is none.
 stuck : tie.Need-returns Inv-loop μ-loop
-stuck c =
-    let at-place = c .before in
-    let at-field-in = at-place .before .before in
-    let at-range-of = at-field-in .before in
-    let at-loop = at-range-of .before .before .before in
-    reading-stuck (at-loop .loop .inv .2) (omega arith) (at-range-of .range-of .ensures) (at-field-in .field-in .result) (at-field-in .field-in .ensures)
-    (at-place .place .given .1)
+stuck c = search (needs, reading-stuck)
 
 -- It was read.
 again : tie.Need-loop-again Inv-loop μ-loop
-again c =
-    let at-slot-of = c .before in
-    let at-value = at-slot-of .before .before in
-    let at-field-in = at-value .before .before in
-    let at-range-of = at-field-in .before in
-    let at-loop = at-range-of .before .before .before in (
-      at-loop .loop .inv .0,
-      simp length-set (at-loop .loop .inv .1),
-      reading-again (at-loop .loop .inv .2) (omega arith) (at-range-of .range-of .ensures) (at-field-in .field-in .result) (at-field-in .field-in .ensures)
-          (at-value .value .given .1) (at-slot-of .slot-of .ensures .0) (c .after .ensures),
-    )
+again c = search (needs, reading-again)
 
 -- No line is left.
 done : tie.Need-returns-2 Inv-loop μ-loop
-done c = reading-done (c .before .loop .inv .2) (λ m. omega arith)
+done c = search (needs, reading-done)
 
 pub lines-in-spec : {M : Type 1} → statement M
 lines-in-spec =

@@ -36,15 +36,11 @@ received c =
 
 -- The place has its bits.
 placed : tie.Need-placed-requires
-placed c κs =
-    let at-place = c .before in
-    place-small _ (unread-at _ (at-place .before .before .read-message .ensures) (at-place .place .given .1))
+placed c κs = search (needs, place-small)
 
 -- Outcome 4, with its place.
 unread : tie.Need-returns-2
-unread c =
-    let at-place = c .before .before in
-    unread-hears _ _ _ _ (unread-at _ (at-place .before .before .read-message .ensures) (at-place .place .given .1)) (c .placed .ensures)
+unread c = search (needs, unread-hears, unread-at)
 
 pub receive-at-spec : {M : Type 1} → statement M
 receive-at-spec =
