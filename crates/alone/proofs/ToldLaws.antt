@@ -23,8 +23,8 @@ use Rattle.message.specs.Answer.{fieldsOf}
 use Rattle.message.specs.declared.Fields.{Fields}
 use Rattle.reader.specs.Answer.{readAs, Reads}
 use Rattle.reader.specs.declared.Read.{Read}
-use Rattle.reader.specs.declared.Read.the-variants.{Message as Read·Message}
-use Rattle.reader.proofs.AnswerLaws.{refused-never, Unread}
+use Rattle.reader.specs.declared.Read.the-variants.{Message as Read·Message, Refused}
+use Rattle.reader.proofs.AnswerLaws.{refused-never, unread-at}
 use Rattle.numbers.specs.Numbers.{message-numbers, numbersOf, numbersIn}
 use Rattle.numbers.proofs.NumbersLaws.{numbers-same, numbers-eight}
 use Rattle.alone.specs.Told.{Told, tellsRead, numbersTold, Tells}
@@ -38,9 +38,11 @@ module _ (s numbers : List ℕ) where
 
   -- The text is no legal message; its place is told.
   pub tells-refused :
-      message-numbers ≤ length numbers → {p r : ℕ} → Unread s p → r ≡ placed bad-message p → Tells (numbersTold s numbers) s r numbers
+      message-numbers ≤ length numbers → {a : Read} {p r : ℕ} → Reads s a → a ≡ Refused p → r ≡ placed bad-message p
+      → Tells (numbersTold s numbers) s r numbers
   unfolding numbersTold tellsRead
-  tells-refused h {p} u returned =
+  tells-refused h {a} {p} told is returned =
+      let u = unread-at s told is in
       rw (le-ltb (length numbers) message-numbers h, u .none-read)
       (record { place = p; place-is = with-place (u .at); returned = returned ∙ sym (packed-alone (placed bad-message p)); left = refl })
 

@@ -25,7 +25,10 @@ use Rattle.rules.proofs.OutcomeLaws.{receive-told}
 use Rattle.rules.specs.Theorems.{SaysLegal}
 use Rattle.promise.specs.Promise.{leftBy, Hears}
 use Rattle.promise.proofs.PromiseLaws.{ready-legal, ready-who, gives-hears}
-use Rattle.reader.proofs.AnswerLaws.{Unread}
+use Rattle.reader.specs.Answer.{Reads}
+use Rattle.reader.specs.declared.Read.{Read}
+use Rattle.reader.specs.declared.Read.the-variants.{Refused}
+use Rattle.reader.proofs.AnswerLaws.{unread-at}
 use Rattle.say.specs.Said.{Answering}
 use Rattle.refuse.specs.Received.{bodyIn, messageHeard}
 use Rattle.obey.specs.Obeyed.{Receives}
@@ -62,9 +65,11 @@ module _ (w : Who) (l : List ℕ) (f : Fields) (s out : List ℕ) (g : Receives 
 
 -- A text that is no message, with the place of its first wrong byte.
 pub unread-hears :
-    (w : Who) (l input out : List ℕ) {p r : ℕ} → Unread input p → r ≡ placed bad-message p → Hears (heard w (stateIn l) (read input)) input l out r l out
+    (w : Who) (l input out : List ℕ) {a : Read} {p r : ℕ} → Reads input a → a ≡ Refused p → r ≡ placed bad-message p
+    → Hears (heard w (stateIn l) (read input)) input l out r l out
 unfolding heard leftBy written over
-unread-hears w l input out {p} u r= =
+unread-hears w l input out {a} {p} told is r= =
+    let u = unread-at input told is in
     rw (u .none-read)
     (record { place = p; place-is = with-place (u .at); returned = r= ∙ sym (packed-alone (placed bad-message p)); state-left = refl; output-left = refl })
 

@@ -1,6 +1,6 @@
 -- `alone::read_numbers` meets its contract: too few numbers are lent, or the text's numbers are put, or it is no legal message. Assumes nothing.
 use borrow.Author.Needs.{needs}
-use Rattle.reader.proofs.AnswerLaws.{unread-at, place-small}
+use Rattle.reader.proofs.AnswerLaws.{place-small}
 use Rattle.alone.proofs.ToldLaws.{tells-short, tells-refused, tells-message, entries-small}
 use Rattle.alone.proofs.read_numbers.Statement.{statement}
 use Rattle.alone.proofs.read_numbers.Tie as tie
@@ -23,7 +23,7 @@ placed c κs = search (needs, place-small)
 
 -- The text is no legal message.
 refused : tie.Need-returns-3
-refused c = search (needs, tells-refused, unread-at)
+refused c = search (needs, tells-refused)
 
 pub read-numbers-spec : {M : Type 1} → statement M
 read-numbers-spec =

@@ -1,7 +1,7 @@
 -- `receive::receive_at` meets its contract: the text is a legal message and its outcome and bytes are packed, or it is none and its place is told.
 -- Assumes nothing.
 use borrow.Author.Needs.{needs}
-use Rattle.reader.proofs.AnswerLaws.{unread-at, place-small}
+use Rattle.reader.proofs.AnswerLaws.{place-small}
 use Rattle.receive.proofs.ReadLaws.{lines-stand}
 use Rattle.receive.proofs.OutcomeLaws.{unread-hears, bytes-small, read-hears}
 use Rattle.receive.proofs.receive_at.Statement.{statement}
@@ -40,7 +40,7 @@ placed c κs = search (needs, place-small)
 
 -- Outcome 4, with its place.
 unread : tie.Need-returns-2
-unread c = search (needs, unread-hears, unread-at)
+unread c = search (needs, unread-hears)
 
 pub receive-at-spec : {M : Type 1} → statement M
 receive-at-spec =
