@@ -6,10 +6,8 @@ use mathlib.Core.Bool.{true, false, true≢false}
 use mathlib.Core.List.{List, [], _∷_, _++_, nil≢cons}
 use mathlib.Core.Path.{_≡_, refl, sym, ap, subst, _∙_}
 use lib.ListN.{length, take, drop, set, take-append-drop}
-use Rattle.text.specs.Found.{FoundNext}
 use Rattle.text.specs.Range.{lineIn}
-use Rattle.text.specs.Reader.{got, lost, literal, onward}
-use Rattle.text.specs.declared.Next.{Next}
+use Rattle.text.specs.Reader.{got, lost, onward}
 use Rattle.text.proofs.ReaderLaws.{onward-got, onward-lost, onward-same, onward-assoc}
 use Rattle.message.specs.Fields.{MessageType, Field as Named, fields, slot, unset, withNumber}
 use Rattle.message.specs.Range.{range, fieldIn, linesIn}
@@ -29,16 +27,6 @@ use Rattle.ranges.specs.declared.Bounds.{Bounds}
 use Rattle.fields.specs.declared.Field.{Field}
 use Rattle.fields.specs.declared.Field.the-variants.{Term}
 use Rattle.fields.specs.declared.Kind.{Kind}
-
--- ---- a field's key, once the case is known
-
-pub key-told
-    : {f g : Field}
-    → f ≡ g
-    → (s : List ℕ) (at : ℕ) (r : Next)
-    → FoundNext s (literal (key (fieldIs g)) (drop at s)) r
-    → FoundNext s (literal (key (fieldIs f)) (drop at s)) r
-key-told is s at r h = subst (λ (x : Field). FoundNext s (literal (key (fieldIs x)) (drop at s)) r) (sym is) h
 
 -- ---- lines of two runs of fields
 

@@ -8,13 +8,12 @@ ghost use Rattle.begins.specs.Digits.{seekNumber};
 ghost use Rattle.begins.specs.Lines.{seekLine};
 ghost use Rattle.lines.specs.Found.{FoundKind, FoundFields, FoundLines};
 ghost use Rattle.seek.specs.Spotted.{Ends, ReadNumber};
-ghost use Rattle.text.specs.Found.{FoundNext};
 ghost use Rattle.text.specs.Range.{lineIn};
-ghost use Rattle.text.specs.Reader.{literal};
 use fields::Field;
 use fields::Kind;
 use message::Fields;
 use seek::NumberAt;
+use seek::TextAt;
 use text::Next;
 use text::Number;
 
@@ -96,26 +95,6 @@ fn type_in(s: &[u8]) -> KindAt
 
 // ---- the lines of fields
 
-// Whether the key of a field stands here.
-fn key_in(s: &[u8], at: usize, field: Field) -> Next
-    requires { ⌜ at ≤ length (now s) ⌝ }
-    ensures { λ r. ⌜ FoundNext (now (s .entry)) (literal (key (fieldIs field)) (drop at (now (s .entry)))) r ⌝ }
-{
-    match field {
-        Field::Term => scan::stands(s, at, b"term="),
-        Field::From => scan::stands(s, at, b"from="),
-        Field::To => scan::stands(s, at, b"to="),
-        Field::Last => scan::stands(s, at, b"last="),
-        Field::Ballot => scan::stands(s, at, b"ballot="),
-        Field::Count => scan::stands(s, at, b"count="),
-        Field::Prev => scan::stands(s, at, b"prev="),
-        Field::Prevterm => scan::stands(s, at, b"prevterm="),
-        Field::Chosen => scan::stands(s, at, b"chosen="),
-        Field::End => scan::stands(s, at, b"end="),
-        Field::Length => scan::stands(s, at, b"length="),
-    }
-}
-
 // The first wrong byte of a line's number that is none. (A function of its own, since a slice that a loop hands to a far call has to lie in memory: D57.)
 fn wrong_number(s: &[u8], at: usize, lo: u32, hi: u32) -> usize
     requires { ⌜ at ≤ length (now s) ⌝ }
@@ -129,10 +108,9 @@ fn field_in(s: &[u8], at: usize, field: Field, lo: u32, hi: u32) -> NumberAt
     requires { ⌜ at ≤ length (now s) ⌝ }
     ensures { λ r. ⌜ ReadNumber (now (s .entry)) (lineIn (key (fieldIs field)) lo hi (drop at (now (s .entry)))) (seekLine (key (fieldIs field)) lo hi (drop at (now (s .entry)))) r ⌝ }
 {
-    let Next::At(p) = key_in(s, at, field) else {
-        return NumberAt::Wrong {
-            place: keyplace::key_place(s, at, field),
-        };
+    let p = match keys::key_in(s, at, field) {
+        TextAt::Is { next } => next,
+        TextAt::Wrong { place } => return NumberAt::Wrong { place },
     };
     let Number::Is { value, next } = scan::number_in(s, p, lo, hi, text::LF) else {
         return NumberAt::Wrong {

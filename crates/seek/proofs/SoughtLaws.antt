@@ -6,7 +6,7 @@ use lib.ListN.{length, drop}
 use Rattle.text.specs.Found.{Found}
 use Rattle.text.specs.Reader.{Got}
 use Rattle.begins.specs.Seek.{Sought, found, wrong, Seeker, on, restOf}
-use Rattle.seek.specs.Spotted.{At, SpottedText, SpottedNumber, Ends, Missed, ReadNumber}
+use Rattle.seek.specs.Spotted.{At, SpottedText, SpottedNumber, Ends, Missed, ReadNumber, ReadText}
 use Rattle.seek.specs.declared.NumberAt.{NumberAt}
 use Rattle.seek.specs.declared.NumberAt.the-variants.{Is, Wrong}
 use Rattle.seek.specs.declared.TextAt.{TextAt}
@@ -104,8 +104,19 @@ unfolding on restOf
 rest-told-two f h (found a r) = rest-told (f a) (h a r)
 rest-told-two f h (wrong r) = refl
 
--- ---- a number that a reader reads
+-- ---- what a reader reads
 
+-- A text.
+module _ {A : Type 0} (s : List ℕ) (g : Got (Unit {0})) (o : Sought A) (x : TextAt) (h : ReadText s g o x) where
+  -- It was read.
+  pub text-read : {n : ℕ} → x ≡ TextAt·Is n → Found s g tt n
+  text-read e = subst (λ (y : TextAt). ReadText s g o y) e h
+
+  -- It was not.
+  pub text-missed : {p : ℕ} → x ≡ TextAt·Wrong p → Missed s g o p
+  text-missed e = subst (λ (y : TextAt). ReadText s g o y) e h
+
+-- A number.
 module _ {A : Type 0} (s : List ℕ) (g : Got ℕ) (o : Sought A) (x : NumberAt) (h : ReadNumber s g o x) where
   -- It was read.
   pub read-is : {v n : ℕ} → x ≡ Is v n → Found s g v n

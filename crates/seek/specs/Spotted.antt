@@ -42,6 +42,11 @@ pub record Missed {A B : Type 0} (s : List ℕ) (g : Got A) (o : Sought B) (p : 
   pub refused : g ≡ lost
   pub ends : Ends s o p
 
+-- A text that has no value of its own.
+abbrev pub ReadText : {A : Type 0} → List ℕ → Got (Unit {0}) → Sought A → TextAt → Type 0
+ReadText s g o (TextAt·Is n) = Found s g tt n
+ReadText s g o (TextAt·Wrong p) = Missed s g o p
+
 -- A number.
 abbrev pub ReadNumber : {A : Type 0} → List ℕ → Got ℕ → Sought A → NumberAt → Type 0
 ReadNumber s g o (Is x n) = Found s g x n

@@ -16,12 +16,11 @@ use Rattle.text.specs.Found.{Found, FoundNext, FoundNumber, IsFour}
 use Rattle.text.specs.Range.{within, numberIn, lineIn}
 use Rattle.text.specs.Reader.{Got, got, lost, onward, literal}
 use Rattle.text.specs.declared.Next.{Next}
-use Rattle.text.specs.declared.Next.the-variants.{At, Bad as Next·Bad}
 use Rattle.text.specs.declared.Number.{Number}
 use Rattle.text.specs.declared.Number.the-variants.{Is, Bad as Number·Bad}
 use Rattle.kinds.proofs.BetweenLaws.{between-below, between-above}
 use Rattle.kinds.proofs.BoolLaws.{or-either, or-first, or-second}
-use Rattle.text.proofs.CaseLaws.{next-at, next-bad, number-is, number-bad}
+use Rattle.text.proofs.CaseLaws.{number-is, number-bad}
 use Rattle.text.proofs.DecimalLaws.{digit-is, more-end, more-digit, more-other, number-end, number-zero, number-first, number-other}
 use Rattle.text.proofs.RangeLaws.{within-in, within-sound, more-above, numberIn-lost, numberIn-below, numberIn-other, numberIn-ended}
 use Rattle.text.proofs.ReaderLaws.{got-value, got-rest, onward-got, onward-lost, onward-sound, literal-same, literal-other}
@@ -256,20 +255,12 @@ module _ (s : List ℕ) (at lo hi end : ℕ) (r : Number) (found : FoundNumber s
 
 -- ---- a line
 
-module _ (key s : List ℕ) (at lo hi : ℕ) where
-  module _ (r : Next) (found : FoundNext s (literal key (drop at s)) r) where
-    -- The key does not stand there.
-    pub line-none : r ≡ Next·Bad → lineIn key lo hi (drop at s) ≡ lost
-    unfolding lineIn
-    line-none e = onward-lost _ (next-bad s _ r found e)
-
-    -- It stands there, and the number is read behind it.
-    pub line-number
-        : (p : ℕ)
-        → r ≡ At p
-        → (x : Number)
-        → FoundNumber s (numberIn lo hi 10 (drop p s)) x
-        → FoundNumber s (lineIn key lo hi (drop at s)) x
-    unfolding lineIn onward
-    line-number p e x f =
-        rw (next-at s _ r found p e .read) f
+-- Its key stands there, and its number is read behind it.
+pub line-number
+    : (key s : List ℕ) (at lo hi : ℕ) {p : ℕ}
+    → Found s (literal key (drop at s)) tt p
+    → (x : Number)
+    → FoundNumber s (numberIn lo hi 10 (drop p s)) x
+    → FoundNumber s (lineIn key lo hi (drop at s)) x
+unfolding lineIn onward
+line-number key s at lo hi stands x f = rw (stands .read) f

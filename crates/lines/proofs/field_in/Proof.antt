@@ -9,8 +9,11 @@ no-key : tie.Need-returns
 no-key c = search (needs, line-no-key)
 
 -- The key ends inside the text.
-inside : tie.Need-wrong-number-requires
+inside : tie.Need-number-in-requires
 inside c κs = search (needs, key-inside)
+
+inside-2 : tie.Need-wrong-number-requires
+inside-2 c κs = search (needs, key-inside)
 
 -- No number of the range stands behind it.
 no-number : tie.Need-returns-2
@@ -22,5 +25,5 @@ number c = search (needs, line-read)
 
 pub field-in-spec : {M : Type 1} → statement M
 field-in-spec =
-    let first = tie.spec (λ c κs. search needs) (λ c. search needs) (λ c. search needs) (λ c κs. search needs) no-key (λ c κs. search needs) in
-    tie.close (first (λ c. search needs) (λ c. search needs) inside no-number number)
+    let first = tie.spec (λ c κs. search needs) (λ c. search needs) (λ c. search needs) no-key inside in
+    tie.close (first (λ c. search needs) (λ c. search needs) inside-2 no-number number)

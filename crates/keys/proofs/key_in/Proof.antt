@@ -1,8 +1,8 @@
--- `lines::key_in` meets its contract: each of the eleven fields has its key. Assumes nothing.
+-- `keys::key_in` meets its contract: each of the eleven fields has its key. Assumes nothing.
 use borrow.Author.Needs.{needs}
-use Rattle.lines.proofs.LinesLaws.{key-told}
-use Rattle.lines.proofs.key_in.Statement.{statement}
-use Rattle.lines.proofs.key_in.Tie as tie
+use Rattle.keys.proofs.KeyLaws.{key-told}
+use Rattle.keys.proofs.key_in.Statement.{statement}
+use Rattle.keys.proofs.key_in.Tie as tie
 
 pub key-in-spec : {M : Type 1} → statement M
 key-in-spec =
