@@ -1,0 +1,3 @@
+pub mod UnitsLaws
+pub mod RoundLaws
+pub mod BetweenLaws
