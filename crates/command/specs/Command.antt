@@ -25,9 +25,13 @@ gain-most = 0x3f80_0000
 unfoldable pub isGain : ℕ → Bool
 isGain bits = leb bits gain-most
 
+-- The longest duration, in ms.
+abbrev pub duration-most : ℕ
+duration-most = 600_000
+
 -- The duration of a buzz or a ramp: 1..600,000 ms.
 unfoldable pub isDuration : ℤ → Bool
-isDuration d = leZ (pos 1) d && leZ d (pos 600_000)
+isDuration d = leZ (pos 1) d && leZ d (pos duration-most)
 
 unfoldable pub isZero : ℤ → Bool
 isZero d = leZ (pos 0) d && leZ d (pos 0)

@@ -56,3 +56,17 @@ out-of-range = 12
 -- A message of own term for which the rules change nothing in the state and write no message.
 abbrev pub nothing-new : ℕ
 nothing-new = 13
+
+-- ---- of playing alone (rule R47), in the order in which they are checked there
+
+-- Played bytes that are no legal command.
+abbrev pub not-playable : ℕ
+not-playable = 14
+
+-- A calibration with a gain that is none, or with a floor above its ceiling.
+abbrev pub bad-calibration : ℕ
+bad-calibration = 15
+
+-- An elapsed time out of range.
+abbrev pub bad-elapsed : ℕ
+bad-elapsed = 16

@@ -1,0 +1,4 @@
+pub mod Play
+pub mod Answer
+pub mod Theorems
+pub mod Vectors
