@@ -1,13 +1,13 @@
 -- Laws of a command's case: a legal command and its motion give each other back, gains by their bits; and no NaN is a gain. Assumes nothing.
-use Prim.Native.Nat.{ℕ, zero, suc, _≤_, _%_}
+use Prim.Native.Nat.{ℕ, zero, suc, _≤_, _<_, _%_}
 use native.Mathlib.Omega.{arith}
 use native.Mathlib.Nat.{mod-eq-of-lt}
 use mathlib.Core.Path.{_≡_, refl, sym, _∙_, ap, subst}
 use mathlib.Core.Logic.{⊎-elim}
 use mathlib.Core.Bool.{Bool, true, false, not, false≢true}
-use borrow.Author.Tests.{le-ltb}
+use borrow.Author.Tests.{le-ltb, lt-ltb}
 use lib.Dec.{T, ltb}
-use lib.Ieee.{Float, nan, inf, fin, ne, eq, binary32, toBits, ofBits, isNan, nanBits, fits}
+use lib.Ieee.{Float, nan, inf, fin, ne, eq, binary32, toBits, ofBits, isNan, nanBits, div, fits}
 use lib.Ieee.Compare.{differs-from-itself}
 use lib.Ieee.Bits.{nanBits-above, nanBits-is, toBits-ofBits, ofBits-toBits}
 use Rattle.command.specs.Command.{Command, isGain, legalCommand}
@@ -35,6 +35,30 @@ same-no-nan (fin s m e) h = tt
 pub differs-bits : (x : Float) → ne x x ≡ true → toBits binary32 x ≡ 0x7fc0_0000
 unfolding toBits
 differs-bits x h = ap (toBits binary32) (differs-from-itself x (rw h tt))
+
+-- A NaN, worked out.
+nought-over-nought : div binary32 (ofBits binary32 0) (ofBits binary32 0) ≡ nan
+unfolding div ofBits
+nought-over-nought = refl
+
+nan-is : (x : Float) → isNan x ≡ true → x ≡ nan
+unfolding isNan
+nan-is nan h = refl
+nan-is (inf s) h = absurd (false≢true h)
+nan-is (fin s m e) h = absurd (false≢true h)
+
+module _ (bits : ℕ) where
+  -- Bits that, without their sign, are above the infinity's are a NaN's,
+  pub bits-nan : 0x7f80_0000 < bits % 0x8000_0000 → div binary32 (ofBits binary32 0) (ofBits binary32 0) ≡ ofBits binary32 bits
+  bits-nan h =
+      let t : nanBits binary32 bits ≡ true = nanBits-above binary32 bits ∙ lt-ltb 0x7f80_0000 (bits % 0x8000_0000) h in
+      nought-over-nought ∙ sym (nan-is (ofBits binary32 bits) (sym (nanBits-is binary32 bits) ∙ t))
+
+  -- and others are not.
+  pub bits-no-nan : bits % 0x8000_0000 ≤ 0x7f80_0000 → T (not (nanBits binary32 bits))
+  bits-no-nan h =
+      let t : nanBits binary32 bits ≡ false = nanBits-above binary32 bits ∙ le-ltb 0x7f80_0000 (bits % 0x8000_0000) h in
+      rw t tt
 
 module _ (bits : ℕ) (h : bits ≤ 0x3f80_0000) where
   -- A gain's bits are no NaN's.

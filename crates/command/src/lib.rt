@@ -5,6 +5,9 @@
 // How many bytes a command has.
 pub const SIZE: usize = 16;
 
+// The bits of gain 1.0, the greatest.
+pub const GAIN_MOST: u32 = 0x3f80_0000;
+
 // A command is a stop, a buzz that carries its gain, or a ramp that carries its two gains, from and to.
 pub enum Case {
     Stop,

@@ -154,6 +154,12 @@ pub const OUT_OF_RANGE: u32 = 12;
 
 pub const NOTHING_NEW: u32 = 13;
 
+pub const NOT_PLAYABLE: u32 = 14;
+
+pub const BAD_CALIBRATION: u32 = 15;
+
+pub const BAD_ELAPSED: u32 = 16;
+
 // ---- an outcome and what goes with it, in one number
 
 // The upper half of 64 bits is counted in these.

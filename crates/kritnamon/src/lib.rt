@@ -8,12 +8,13 @@ ghost use Rattle.promise.specs.Promise.{Answers, call};
 ghost use Rattle.rules.specs.Report.{IsReport, reportOf, chosenOf};
 ghost use Rattle.alone.specs.Told.{Tells, numbersTold};
 ghost use Rattle.alone.specs.Left.{IsLeft, writes};
+ghost use Rattle.play.specs.Answer.{played, resultOf, calibrationOf, IsPlayed};
 ghost use Rattle.kritnamon.specs.Version.{version};
 use kinds::Hub;
 use promise::Caller;
 
-// The version: 3.0.0.
-const VERSION: u32 = 30000;
+// The version: 3.1.0.
+const VERSION: u32 = 30100;
 
 // Reads a command's 16 bytes into the first five lent numbers: motor, kind, duration, a and b. A refusal (3: fewer than five numbers
 // lent; 10: not a legal command) leaves them all.
@@ -37,6 +38,22 @@ pub extern "C" fn kritnamon_write_command(
     ensures { λ r. ⌜ IsResult (commandWritten (commandWith motor kind duration a b) (now (out .entry))) r (now (out .exit)) ⌝ }
 {
     commands::write_numbers(motor, kind, duration, a, b, out)
+}
+
+// Plays a command's 16 bytes: its time left in ms, below zero where it is overdue, and its drive's bits go into the lent numbers. A refusal (14: not a legal
+// command; 15: a gain that is none, or a floor above its ceiling; 16: an elapsed time out of range) puts 0 and +0 there.
+#[no_mangle]
+pub extern "C" fn kritnamon_play(
+    bytes: &[u8],
+    elapsed: i64,
+    floor: u32,
+    ceiling: u32,
+    left: &mut i64,
+    drive: &mut u32,
+) -> u32
+    ensures { λ r. ⌜ IsPlayed (resultOf (played (now (bytes .entry)) elapsed (calibrationOf floor ceiling))) r (now (left .exit)) (now (drive .exit)) ⌝ }
+{
+    player::play_numbers(bytes, elapsed, floor, ceiling, left, drive)
 }
 
 // Reads a message's text into the first eight lent numbers: type, term, from, to, up to three of the type's own, and the count of its

@@ -10,8 +10,6 @@ ghost use Rattle.command.specs.Proposal.{proposable, isProposal};
 ghost use Rattle.lawful.specs.Limits.{kindLimits};
 use command::Numbers;
 
-// The bits of gain 1.0, the greatest.
-const GAIN_MOST: u32 = 0x3f80_0000;
 // The shortest duration of a buzz or ramp, in ms.
 const DURATION_LEAST: u32 = 1;
 // The longest duration, in ms.
@@ -33,7 +31,7 @@ pub fn is_legal(n: Numbers) -> bool
     let two = n.kind / 2;
     let motor = (1 <= n.motor) & (n.motor <= 64);
     let duration = (one <= n.duration) & (n.duration <= one * DURATION_MOST);
-    let gains = (n.a <= one * GAIN_MOST) & (n.b <= two * GAIN_MOST);
+    let gains = (n.a <= one * command::GAIN_MOST) & (n.b <= two * command::GAIN_MOST);
     motor & (duration & gains)
 }
 
@@ -91,12 +89,12 @@ pub fn limits() -> [u32; 12]
         0,
         DURATION_LEAST,
         DURATION_MOST,
-        GAIN_MOST,
+        command::GAIN_MOST,
         0,
         DURATION_LEAST,
         DURATION_MOST,
-        GAIN_MOST,
-        GAIN_MOST,
+        command::GAIN_MOST,
+        command::GAIN_MOST,
     ]
 }
 

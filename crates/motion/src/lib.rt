@@ -10,6 +10,11 @@ use command::Case;
 use command::Motion;
 use command::Numbers;
 
+// The bits of the infinity: without its sign, a NaN's are above them.
+const INFINITY: u32 = 0x7f80_0000;
+// The bit of the sign.
+const SIGN: u32 = 0x8000_0000;
+
 // The float of these bits, which are a gain's.
 fn gain_of(bits: u32) -> f32
     requires { ⌜ bits ≤ gain-most ⌝ }
@@ -18,8 +23,18 @@ fn gain_of(bits: u32) -> f32
     f32::from_bits(bits)
 }
 
+// The float of these bits, whatever they are; of a NaN's, the one NaN.
+pub fn float_of(bits: u32) -> f32
+    ensures { λ r. ⌜ r ≡ ofBits binary32 bits ⌝ }
+{
+    if INFINITY < bits % SIGN {
+        return 0.0 / 0.0;
+    }
+    f32::from_bits(bits)
+}
+
 // The bits of a float; of a NaN, which no command has, those of the quiet one.
-fn bits_of(gain: f32) -> u32
+pub fn bits_of(gain: f32) -> u32
     ensures { λ r. ⌜ r ≡ toBits binary32 gain ⌝ }
 {
     if gain != gain {

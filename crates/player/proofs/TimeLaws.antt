@@ -1,0 +1,65 @@
+-- Laws of times: what the casts between signed and unsigned numbers keep, and that a time left fits. Assumes nothing.
+use Prim.Native.Nat.{ℕ, zero, suc, _≤_, _<_}
+use native.Mathlib.Omega.{arith}
+use mathlib.Core.Path.{_≡_, refl, sym, _∙_, ap, subst}
+use mathlib.Core.Bool.{true, false≢true}
+use borrow.Author.Tests.{leb-true}
+use borrow.Author.Needs.{sfits-of, fits-under}
+use lib.Dec.{T, leb, ltb}
+use lib.IntN.{ℤ, pos, negsuc, natAbs, _-ℤ_}
+use lib.Signed.{mag, nonNeg}
+use mir.Syntax.{w32, w64}
+use mir.Val.{Fits, SFits, toZ, ofZ}
+use mir.Facts.{toZ-ofZ, toZ-pos}
+use Rattle.kinds.proofs.BoolLaws.{and-second}
+use Rattle.command.specs.Command.{duration-most}
+use Rattle.command.proofs.Tests.{by-test}
+use Rattle.play.specs.Play.{timeLeft, elapsed-most, isElapsed, Timed}
+
+most : (n : ℕ) → isElapsed (pos n) ≡ true → n ≤ elapsed-most
+unfolding isElapsed
+most n h = leb-true n elapsed-most (and-second (leb 0 n) _ h)
+
+-- ---- the ms of an elapsed time
+
+pub elapsed-kept : (n : ℤ) → SFits w64 n → isElapsed n ≡ true → T (nonNeg (toZ w64 (ofZ w64 n))) × Fits w32 (natAbs (toZ w64 (ofZ w64 n)))
+unfolding isElapsed
+elapsed-kept (pos n) fits h = rw (toZ-ofZ fits) (tt, fits-under w32 n 0x8000_0000 (omega (arith, most n h)) tt)
+elapsed-kept (negsuc n) fits h = absurd (false≢true h)
+
+pub elapsed-is : (n : ℤ) → SFits w64 n → isElapsed n ≡ true → pos (natAbs (toZ w64 (ofZ w64 n))) ≡ n
+unfolding isElapsed
+elapsed-is (pos n) fits h = ap (λ z. pos (natAbs z)) (toZ-ofZ fits)
+elapsed-is (negsuc n) fits h = absurd (false≢true h)
+
+-- ---- the ms of a duration
+
+-- It fits 32 bits.
+pub timed-fits : (n : ℤ) → Timed n → SFits w32 n
+timed-fits n t = subst (λ z. SFits w32 z) (sym (t .is)) (sfits-of (omega (arith, t .most)))
+
+module _ (n : ℤ) (fits : SFits w32 n) (t : Timed n) where
+  pub duration-kept : T (nonNeg (toZ w32 (ofZ w32 n))) × Fits w32 (natAbs (toZ w32 (ofZ w32 n)))
+  duration-kept = rw (toZ-ofZ fits, t .is) (tt, fits-under w32 (t .ms) 0x8000_0000 (omega (arith, t .most)) tt)
+
+  pub duration-is : (pos (natAbs (toZ w32 (ofZ w32 n))) ≡ n) × (natAbs (toZ w32 (ofZ w32 n)) ≤ duration-most)
+  duration-is = rw (toZ-ofZ fits, t .is) (refl, t .most)
+
+-- ---- the time left
+
+mag-left : (d e : ℕ) → d < 4_294_967_296 → e < 4_294_967_296 → mag (pos d -ℤ pos e) < 4_294_967_296
+mag-left d zero f g = omega arith
+mag-left d (suc e) f g = by-test (ltb d (suc e)) (λ t. rw t (omega arith)) (λ t. rw t (omega arith))
+
+module _ (d e : ℕ) (f : Fits w32 d) (g : Fits w32 e) where
+  wide : toZ w64 d -ℤ toZ w64 e ≡ timeLeft (pos d) (pos e)
+  wide =
+      let p : toZ w64 d ≡ pos d = toZ-pos w64 (omega arith) in
+      let q : toZ w64 e ≡ pos e = toZ-pos w64 (omega arith) in
+      λ i. p i -ℤ q i
+
+  pub left-fits : SFits w64 (toZ w64 d -ℤ toZ w64 e)
+  left-fits = subst (λ z. SFits w64 z) (sym wide) (sfits-of (omega (arith, mag-left d e (omega arith) (omega arith))))
+
+  pub left-is : toZ w64 (ofZ w64 (toZ w64 d -ℤ toZ w64 e)) ≡ timeLeft (pos d) (pos e)
+  left-is = toZ-ofZ left-fits ∙ wide
