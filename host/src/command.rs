@@ -18,7 +18,7 @@ const RAMP: u16 = 2;
 
 /// The bits of 1.0. As unsigned numbers the bits of +0 to 1.0 are exactly those up to here:
 /// a sign bit or a NaN's exponent makes a greater number.
-const GAIN_MOST: u32 = 0x3f80_0000;
+pub(crate) const GAIN_MOST: u32 = 0x3f80_0000;
 
 /// What a motor is to do.
 #[derive(Clone, Copy, Debug, PartialEq)]

@@ -139,11 +139,17 @@ pub enum Outcome {
     OutOfRange = 12,
     /// A message of own term that changes nothing and is not answered.
     NothingNew = 13,
+    /// Played: a command not 16 bytes or not legal.
+    NotPlayable = 14,
+    /// Played: a calibration with a gain that is not legal, or a floor above its ceiling.
+    BadCalibration = 15,
+    /// Played: an elapsed time out of range.
+    BadElapsed = 16,
 }
 
 impl Outcome {
     /// Every outcome, each at its number.
-    pub const ALL: [Outcome; 14] = [
+    pub const ALL: [Outcome; 17] = [
         Outcome::Done,
         Outcome::NotKnown,
         Outcome::BadState,
@@ -158,6 +164,9 @@ impl Outcome {
         Outcome::LogFull,
         Outcome::OutOfRange,
         Outcome::NothingNew,
+        Outcome::NotPlayable,
+        Outcome::BadCalibration,
+        Outcome::BadElapsed,
     ];
 
     /// The outcome of rule R32's number; none where there is no such number.

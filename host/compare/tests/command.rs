@@ -3,6 +3,7 @@
 use compare::binding::watched::Watched;
 use compare::binding::{read_command, write_command};
 use compare::generator::rng::{Rng, rounds, seed};
+use compare::generator::states::bytes_of;
 use independent::Outcome;
 use independent::command::{self, Case, Command};
 
@@ -42,16 +43,6 @@ const KINDS: [u32; 5] = [0, 1, 2, 3, 65_535];
 const DURATIONS: [i32; 9] = [i32::MIN, -1, 0, 1, 19, 20, 600_000, 600_001, i32::MAX];
 const BITS: [u32; 9] =
     [0, 1, 0x3f00_0000, 0x3f7f_ffff, 0x3f80_0000, 0x3f80_0001, 0x7f80_0000, 0x7fc0_0000, 0x8000_0000];
-
-fn bytes_of(motor: u32, kind: u32, duration: i32, a: u32, b: u32) -> [u8; 16] {
-    let mut bytes = [0; 16];
-    bytes[0..2].copy_from_slice(&(motor as u16).to_be_bytes());
-    bytes[2..4].copy_from_slice(&(kind as u16).to_be_bytes());
-    bytes[4..8].copy_from_slice(&duration.to_be_bytes());
-    bytes[8..12].copy_from_slice(&a.to_be_bytes());
-    bytes[12..16].copy_from_slice(&b.to_be_bytes());
-    bytes
-}
 
 /// Calls a function with every combination of the edges.
 fn each_edge(mut call: impl FnMut(u32, u32, i32, u32, u32)) {

@@ -122,6 +122,11 @@ fn calls_at_states_reached(rng: &mut Rng, tally: &mut Tally, homes: u64) {
     }
 }
 
+/// The outcomes that a step gives: all but those of playing a command.
+fn of_a_step() -> impl Iterator<Item = Outcome> {
+    Outcome::ALL.into_iter().filter(|outcome| outcome.number() < Outcome::NotPlayable.number())
+}
+
 #[test]
 fn calls_at_states_made_and_reached_are_answered_alike() {
     let mut rng = Rng::seeded(seed());
@@ -131,10 +136,7 @@ fn calls_at_states_made_and_reached_are_answered_alike() {
     calls_at_states_reached(&mut rng, &mut tally, 24 * rounds());
     println!("{tally:?}");
     assert!(tally.calls >= 100_000);
-    assert!(
-        Outcome::ALL.iter().all(|&outcome| tally.outcomes[outcome] >= 1_000),
-        "an outcome was rarely met"
-    );
+    assert!(of_a_step().all(|outcome| tally.outcomes[outcome] >= 1_000), "an outcome was rarely met");
     assert!(tally.done_by_event[1..].iter().all(|&count| count >= 1_000), "an event was rarely done");
     assert!(tally.done_by_type[1..].iter().all(|&count| count >= 1_000), "a type was rarely taken");
     assert!(tally.unblocked >= 150, "an empty log was rarely asked with a lower ballot");

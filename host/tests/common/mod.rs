@@ -1,4 +1,4 @@
-//! What the tests share: images, calls with every lent byte watched, and a second opinion on legality.
+//! What the tests share: images, calls with every lent byte watched, chance, and a second opinion on legality.
 //! Nothing here uses the library's own reading or writing of states.
 
 #![allow(dead_code, unused_imports)] // Each test file uses its own part.
@@ -142,20 +142,44 @@ pub fn refused(after: &After, outcome: u32) {
     assert_eq!((after.outcome, after.text.as_str()), (outcome, ""));
 }
 
+// ---- chance
+
+/// A small generator with a printed seed, so that a failure can be had again (splitmix64).
+pub struct Dice(pub u64);
+
+impl Dice {
+    pub fn next(&mut self) -> u64 {
+        self.0 = self.0.wrapping_add(0x9e37_79b9_7f4a_7c15);
+        let mut mixed = self.0;
+        mixed = (mixed ^ (mixed >> 30)).wrapping_mul(0xbf58_476d_1ce4_e5b9);
+        mixed = (mixed ^ (mixed >> 27)).wrapping_mul(0x94d0_49bb_1331_11eb);
+        mixed ^ (mixed >> 31)
+    }
+
+    pub fn below(&mut self, bound: usize) -> usize {
+        (self.next() % bound as u64) as usize
+    }
+
+    pub fn one_in(&mut self, chances: usize) -> bool {
+        self.below(chances) == 0
+    }
+}
+
 // ---- a second opinion on legality, sentence by sentence from the rules
+
+pub fn gain_legal(bits: u32) -> bool {
+    let value = f32::from_bits(bits);
+    value.is_sign_positive() && (0.0..=1.0).contains(&value)
+}
 
 pub fn command_legal(command: &Command) -> bool {
     let part = |at: usize| number_at(command, at);
     let (motor, kind) = (part(0) >> 16, part(0) & 0xffff);
-    let gain = |bits: u32| {
-        let value = f32::from_bits(bits);
-        value.is_sign_positive() && (0.0..=1.0).contains(&value)
-    };
     let lasts = (1..=600_000).contains(&(part(4) as i32));
     let case = match kind {
         0 => part(4) == 0 && part(8) == 0 && part(12) == 0,
-        1 => lasts && gain(part(8)) && part(12) == 0,
-        2 => lasts && gain(part(8)) && gain(part(12)),
+        1 => lasts && gain_legal(part(8)) && part(12) == 0,
+        2 => lasts && gain_legal(part(8)) && gain_legal(part(12)),
         _ => false,
     };
     (1..=64).contains(&motor) && case

@@ -24,6 +24,15 @@ mod library {
             out: *mut u8,
             length: usize,
         ) -> u32;
+        pub fn kritnamon_play(
+            command: *const u8,
+            length: usize,
+            elapsed: i64,
+            floor: u32,
+            ceiling: u32,
+            left: *mut i64,
+            drive: *mut u32,
+        ) -> u32;
         pub fn kritnamon_version() -> u32;
         pub fn kritnamon_state_size() -> usize;
         pub fn kritnamon_places() -> u32;
@@ -78,6 +87,21 @@ pub fn write_command(motor: u32, kind: u32, duration: i32, a: u32, b: u32, out: 
     // SAFETY: pointer and length are those of one slice, lent to this call alone.
     named(unsafe {
         library::kritnamon_write_command(motor, kind, duration, a, b, out.as_mut_ptr(), out.len())
+    })
+}
+
+/// Plays a command. The time left and the drive are put into the lent numbers.
+pub fn play(
+    command: &[u8],
+    elapsed: i64,
+    floor: u32,
+    ceiling: u32,
+    left: &mut i64,
+    drive: &mut u32,
+) -> Outcome {
+    // SAFETY: pointer and length are those of one slice; both numbers are lent to this call alone.
+    named(unsafe {
+        library::kritnamon_play(command.as_ptr(), command.len(), elapsed, floor, ceiling, left, drive)
     })
 }
 

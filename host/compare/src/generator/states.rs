@@ -111,15 +111,20 @@ pub fn rising(rng: &mut Rng, count: u32, least: u32, most: u32) -> Vec<Row> {
 
 /// A legal command of any kind.
 pub fn command(rng: &mut Rng) -> Command {
-    let kind = rng.below(3) as u16;
+    let kind = rng.below(3) as u32;
     let [duration, a, b] = match kind {
         0 => [0; 3],
         1 => [duration(rng), gain(rng), 0],
         _ => [duration(rng), gain(rng), gain(rng)],
     };
+    bytes_of(1 + rng.below(64) as u32, kind, duration as i32, a, b)
+}
+
+/// The bytes of a command with these numbers, whether it is legal or not.
+pub fn bytes_of(motor: u32, kind: u32, duration: i32, a: u32, b: u32) -> Command {
     let mut bytes = [0; 16];
-    bytes[0..2].copy_from_slice(&(1 + rng.below(64) as u16).to_be_bytes());
-    bytes[2..4].copy_from_slice(&kind.to_be_bytes());
+    bytes[0..2].copy_from_slice(&(motor as u16).to_be_bytes());
+    bytes[2..4].copy_from_slice(&(kind as u16).to_be_bytes());
     bytes[4..8].copy_from_slice(&duration.to_be_bytes());
     bytes[8..12].copy_from_slice(&a.to_be_bytes());
     bytes[12..16].copy_from_slice(&b.to_be_bytes());
