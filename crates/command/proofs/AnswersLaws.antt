@@ -4,9 +4,9 @@ use native.Mathlib.Omega.{arith}
 use native.Mathlib.Nat.{add-zero}
 use mathlib.Core.Path.{_≡_, refl, sym, _∙_, ap}
 use mathlib.Core.Logic.{⊎-elim}
-use mathlib.Core.Bool.{true, false, _&&_, _||_, and-false}
+use mathlib.Core.Bool.{Bool, true, false, not, _&&_, _||_, and-false}
 use mathlib.Core.List.{List, [], _++_, append-assoc, append-nil}
-use borrow.Author.Tests.{leb-true, ltb-true, eqb-true, eq-eqb, ne-eqb, lt-ltb, le-ltb}
+use borrow.Author.Tests.{leb-true, ltb-true, eqb-true, eq-eqb, ne-eqb, lt-ltb, le-ltb, not-true, not-false}
 use lib.Dec.{leb, eqb}
 use lib.IntN.{ℤ, pos, negsuc}
 use lib.ListN.{length, drop}
@@ -147,6 +147,10 @@ legal-same m n h = cc
 never-illegal : (m : Motion) → Legal m ≡ Illegal → ⊥
 never-illegal m h = let z : _≡_ {A = ℕ} 0 1 = cc in omega arith
 
+-- What a test told, turned round.
+pub told-legal : (n : Numbers) (b : Bool) → b ≡ legalCommand (ofNumbers n) → not b ≡ false → legalCommand (ofNumbers n) ≡ true
+told-legal n b b-is t = sym b-is ∙ not-false b t
+
 module _ (l : List ℕ) where
   pub isCommand-size : (length l ≡ 16 → ⊥) → isCommand l ≡ false
   unfolding isCommand
@@ -176,15 +180,33 @@ module _ (l : List ℕ) where
   unfolding motionRead
   motionRead-illegal h = rw h
 
-  -- The motion of a legal command is answered, with outcome 0.
-  pub reads-legal : isCommand l ≡ true → ReadsCommand l (Legal (motionOf (commandOf l)))
+  reads-none : isCommand l ≡ false → ReadsCommand l Illegal
   unfolding judgedOutcome
-  reads-legal h = record { answer = sym (motionRead-legal h); outcome = rw h }
+  reads-none h = record { answer = sym (motionRead-illegal h); outcome = rw h }
 
-  -- Any other bytes are refused, with outcome 10.
-  pub reads-illegal : isCommand l ≡ false → ReadsCommand l Illegal
-  unfolding judgedOutcome
-  reads-illegal h = record { answer = sym (motionRead-illegal h); outcome = rw h }
+  -- Bytes that are not 16 are refused, with outcome 10.
+  pub reads-size : (length l ≡ 16 → ⊥) → ReadsCommand l Illegal
+  reads-size h = reads-none (isCommand-size h)
+
+  -- Of 16 bytes, by their numbers and the test of these:
+  module _ (n : Numbers) (b : Bool) (h : length l ≡ 16) (n-is : n ≡ numbersAt 0 l) (b-is : b ≡ legalCommand (ofNumbers n)) where
+    command-is : ofNumbers n ≡ commandOf l
+    command-is = ap ofNumbers n-is ∙ ofNumbers-whole h
+
+    judged : isCommand l ≡ b
+    unfolding isCommand
+    judged = rw (eq-eqb (length l) 16 h) (sym (b-is ∙ ap legalCommand command-is))
+
+    -- those of no legal command are refused so too,
+    pub reads-illegal : not b ≡ true → ReadsCommand l Illegal
+    reads-illegal t = reads-none (judged ∙ not-true b t)
+
+    -- and the motion of a legal one is answered, with outcome 0.
+    pub reads-legal : (m : Motion) → not b ≡ false → m ≡ motionOf (ofNumbers n) → ReadsCommand l (Legal m)
+    unfolding judgedOutcome
+    reads-legal m t m-is =
+        let yes : isCommand l ≡ true = judged ∙ not-false b t in
+        record { answer = ap Legal (m-is ∙ ap motionOf command-is) ∙ sym (motionRead-legal yes); outcome = rw yes }
 
 -- A motion whose command is legal is read back from that command's bytes.
 pub motionRead-written : (m : Motion) → Floats (m .case) → legalCommand (commandIs m) ≡ true → motionRead (commandBytes (commandIs m)) ≡ Legal m

@@ -32,11 +32,14 @@ fn put_numbers(n: Numbers, out: &mut [u8])
 pub fn read_command(bytes: &[u8]) -> Read
     ensures { λ r. ⌜ ReadsCommand (now (bytes .entry)) r ⌝ }
 {
-    if lawful::is_command(bytes) {
-        Read::Legal(motion::motion_of(lawful::numbers_at(bytes, 0)))
-    } else {
-        Read::Illegal
+    if bytes.len() != command::SIZE {
+        return Read::Illegal;
     }
+    let n = lawful::numbers_at(bytes, 0);
+    if !lawful::is_legal(n) {
+        return Read::Illegal;
+    }
+    Read::Legal(motion::motion_of(n))
 }
 
 // Writes a motion's 16 bytes at the start of `out`. A refusal (3: too little room; 10: not legal) leaves every byte.
