@@ -2,9 +2,9 @@
  *
  * Three, five or seven hubs keep one log of motor commands. This library is one hub's step: from the
  * hub's state and one event to the next state, an outcome and at most one message. Beside it there
- * are the reading and writing of commands and messages, and what a hub reports. README.md has the
- * words, docs/RULES.md the rules, docs/STORAGE.md what has to be stored; "The step" below says what
- * firmware does with it all, and examples/hub.c shows it.
+ * are the reading and writing of commands and messages, what a hub reports, and what a motor is driven
+ * at while a command is played. README.md has the words, docs/RULES.md the rules, docs/STORAGE.md what
+ * has to be stored; "The step" below says what firmware does with it all, and examples/hub.c shows it.
  *
  * The library has no state of its own, allocates nothing, reads no clock, does no input or output,
  * and never stops half-way. The same arguments give the same answer and leave the same bytes. Of
@@ -12,17 +12,19 @@
  * lends its state and an output, 86,072 bytes together, and the text that it has received.
  *
  * Nothing is asked of the numbers and bytes that are handed in: any of them get an answer. A refusal,
- * which is every outcome but KRITNAMON_DONE, leaves every lent byte and number as it was, with one
- * exception: KRITNAMON_STALE leaves the state and may still write a reply to `out`, a vote-no for a
- * vote-request or an append-no for an append.
+ * which is every outcome but KRITNAMON_DONE, leaves every lent byte and number as it was, with two
+ * exceptions: KRITNAMON_STALE leaves the state and may still write a reply to `out`, a vote-no for a
+ * vote-request or an append-no for an append; and kritnamon_play puts 0 into both of its numbers.
  *
  * What C itself asks is the caller's to keep:
  *   - A pointer is good for as many elements as the length beside it says. It is never null, not
  *     even with length 0, where any other pointer will do.
- *   - A pointer to uint32_t is aligned as C has it.
+ *   - A pointer to uint32_t or int64_t is aligned as C has it.
  *   - What is lent for writing overlaps nothing else that is lent with it. Until the call returns,
  *     nobody else (a thread, an interrupt, a device) writes what is lent, or reads what is lent for
  *     writing.
+ *   - kritnamon_play works in float: it is called with floats rounded to the nearest and kept when they
+ *     are small (subnormal), as C begins; not in a mode that rounds another way or flushes to zero.
  * Apart from that all functions may be called at any time, from any thread, also at the same time.
  */
 #ifndef KRITNAMON_H
@@ -37,7 +39,7 @@ extern "C" {
 
 /* ---- Version: 10,000 for each major version, 100 for each minor one, 1 for each patch. */
 
-#define KRITNAMON_VERSION 30000u  /* 3.0.0 */
+#define KRITNAMON_VERSION 30100u  /* 3.1.0 */
 
 /* The version of the library that was linked. Firmware compares it with KRITNAMON_VERSION, that of
  * the header, once when it starts. Proved: kritnamon_version in crates/kritnamon. */
@@ -45,26 +47,30 @@ uint32_t kritnamon_version(void);
 
 /* Since 3.0.0 an answer has the place of a wrong byte beside its outcome (KRITNAMON_WRONG_AT): firmware
  * that was built with an older header reads another outcome where a message is damaged, and is to be
- * built again. States and texts are those of 2.0.0. */
+ * built again. States and texts are those of 2.0.0. Since 3.1.0 there is kritnamon_play, with three
+ * outcomes of its own: firmware that has given 14 to 16 a meaning beside these takes other numbers. */
 
 /* ---- Outcomes. They are tested in this order; the first that applies is given. */
 
-#define KRITNAMON_DONE           0u  /* done */
-#define KRITNAMON_NOT_KNOWN      1u  /* n not 3, 5 or 7, own number not in 1..n, or no such event */
-#define KRITNAMON_BAD_STATE      2u  /* state bytes not of the layout's length, or state not legal */
-#define KRITNAMON_SHORT_OUTPUT   3u  /* what is lent for the answer is too short */
-#define KRITNAMON_BAD_MESSAGE    4u  /* message not legal, or its text too long */
-#define KRITNAMON_NOT_ADDRESSED  5u  /* message from a number above n or the hub's own, or to another */
-#define KRITNAMON_STALE          6u  /* message of a term below the hub's, or vote-request at its term */
-#define KRITNAMON_CONTRADICTING  7u  /* a message of the hub's term that no hub of its group sends it */
-#define KRITNAMON_WRONG_ROLE     8u  /* start at a leader; propose or send at another role */
-#define KRITNAMON_NO_TERM_LEFT   9u  /* start at the last term */
-#define KRITNAMON_BAD_COMMAND   10u  /* command not 16 bytes or not legal; propose: also one that is
-                                        shorter than KRITNAMON_FELT_LEAST and no stop */
-#define KRITNAMON_LOG_FULL      11u  /* propose at a full log */
-#define KRITNAMON_OUT_OF_RANGE  12u  /* send to a number outside 1..n or to itself, or prev above the
-                                        log's length; kritnamon_reported: no such place is reported */
-#define KRITNAMON_NOTHING_NEW   13u  /* message of the hub's term that changes nothing, not answered */
+#define KRITNAMON_DONE             0u  /* done */
+#define KRITNAMON_NOT_KNOWN        1u  /* n not 3, 5 or 7, own number not in 1..n, or no such event */
+#define KRITNAMON_BAD_STATE        2u  /* state bytes not of the layout's length, or state not legal */
+#define KRITNAMON_SHORT_OUTPUT     3u  /* what is lent for the answer is too short */
+#define KRITNAMON_BAD_MESSAGE      4u  /* message not legal, or its text too long */
+#define KRITNAMON_NOT_ADDRESSED    5u  /* message from a number above n or the hub's own, or to another */
+#define KRITNAMON_STALE            6u  /* message of a term below the hub's, or vote-request at its term */
+#define KRITNAMON_CONTRADICTING    7u  /* a message of the hub's term that no hub of its group sends it */
+#define KRITNAMON_WRONG_ROLE       8u  /* start at a leader; propose or send at another role */
+#define KRITNAMON_NO_TERM_LEFT     9u  /* start at the last term */
+#define KRITNAMON_BAD_COMMAND     10u  /* command not 16 bytes or not legal; propose: also one that is
+                                          shorter than KRITNAMON_FELT_LEAST and no stop */
+#define KRITNAMON_LOG_FULL        11u  /* propose at a full log */
+#define KRITNAMON_OUT_OF_RANGE    12u  /* send to a number outside 1..n or to itself, or prev above the
+                                          log's length; kritnamon_reported: no such place is reported */
+#define KRITNAMON_NOTHING_NEW     13u  /* message of the hub's term that changes nothing, not answered */
+#define KRITNAMON_NOT_PLAYABLE    14u  /* kritnamon_play: not 16 bytes, or no legal command */
+#define KRITNAMON_BAD_CALIBRATION 15u  /* kritnamon_play: no gains, or floor above ceiling */
+#define KRITNAMON_BAD_ELAPSED     16u  /* kritnamon_play: elapsed not 0 to KRITNAMON_ELAPSED_MOST */
 
 /* What they say of a running home, where kritnamon_step gives them:
  *
@@ -126,6 +132,35 @@ uint32_t kritnamon_read_command(const uint8_t *bytes, size_t length, uint32_t *n
  * Proved: kritnamon_write_command in crates/kritnamon. */
 uint32_t kritnamon_write_command(uint32_t motor, uint32_t kind, int32_t duration, uint32_t a, uint32_t b,
                                  uint8_t *out, size_t length);
+
+/* ---- Playing: the time left of a command and the drive of its motor, so long after it began.
+ *
+ * The library has no clock. While a command lasts firmware asks, every few ms or whenever the motor can
+ * take another drive, with the time since the command began, and is told the same for the same time. A
+ * command that comes late, at a hub that was without power say, is asked for like any other: one that
+ * is over drives nothing, and its time left, below zero, is by how much it is overdue.
+ *
+ * A motor's calibration is two gains, its floor and its ceiling. The level of a buzz is its gain; that of
+ * a ramp is from + (to - from) * (elapsed / duration), which lies between from and to and does not turn
+ * back. Where the level is above 0 the drive is floor + (ceiling - floor) * level; at level 0, at the end
+ * of the duration and past it, and for a stop it is 0. Each of these operations is one of float, rounded
+ * once, in this order, so that all hubs drive alike to the last bit. The drive is never below the floor
+ * where the level is above 0; its rounding may lift it above the ceiling, and never above 1.0. */
+
+#define KRITNAMON_ELAPSED_MOST 2147483647u  /* ms */
+
+/* Plays the command in `bytes`, `elapsed` ms after it began.
+ *   floor, ceiling  the calibration, each by the bits of its float, as a command's gains
+ *   left            the time left in ms, which is duration - elapsed: below zero the command is overdue by
+ *                   that much, which is no refusal
+ *   drive           the bits of the drive: those of a gain, whatever comes in
+ * Returns KRITNAMON_NOT_PLAYABLE if the bytes are not 16 or no legal command, then
+ * KRITNAMON_BAD_CALIBRATION if floor or ceiling is no gain or floor is above ceiling, then
+ * KRITNAMON_BAD_ELAPSED if elapsed is not 0 to 2,147,483,647; each puts 0 into `left` and 0, the bits of
+ * +0, into `drive`. Else KRITNAMON_DONE. A command shorter than KRITNAMON_FELT_LEAST is played like
+ * any other. kritnamon_inline.h has the same with floats. Proved: kritnamon_play in crates/kritnamon. */
+uint32_t kritnamon_play(const uint8_t *bytes, size_t length, int64_t elapsed, uint32_t floor,
+                        uint32_t ceiling, int64_t *left, uint32_t *drive);
 
 /* ---- Messages: lines `key=value`, each ended by LF, at most 65,536 bytes. */
 
@@ -256,8 +291,9 @@ uint32_t kritnamon_reported(const uint8_t *state, size_t length, uint32_t place,
  *      kritnamon_read_message; KRITNAMON_ALL is every other hub of the group. It may be lost, come
  *      late, come twice, or overtake others.
  *   4. Play the commands at the places that kritnamon_chosen newly counts, in order, each as
- *      kritnamon_reported gives it; then store, beside the state, how many places were played. What is
- *      reported at a place is so for good: no hub of the group ever reports another command there.
+ *      kritnamon_reported gives it (kritnamon_play tells the drive); then store, beside the state, how
+ *      many places were played. What is reported at a place is so for good: no hub of the group ever
+ *      reports another command there.
  * That a message leaves only after its state is stored is what the home's safety rests on: a message is
  * a promise, and a hub that forgot one could undo what others have played. If storing fails, send
  * nothing, play nothing, and take KRITNAMON_RESTART on the bytes stored last.

@@ -115,7 +115,7 @@ static void numbers(void)
 /* One line for each outcome, and one more. */
 static void outcomes(void)
 {
-    for (uint32_t outcome = 0; outcome <= KRITNAMON_NOTHING_NEW + 1; outcome++) {
+    for (uint32_t outcome = 0; outcome <= KRITNAMON_BAD_ELAPSED + 1; outcome++) {
         printf("%s\n", kritnamon_outcome_name(outcome));
     }
 }
@@ -299,6 +299,24 @@ static void damaged_message(void)
     take(2, KRITNAMON_RECEIVE, 0, text, length);
 }
 
+/* A ramp played with floats: within its time, at its end, overdue, and not at all. */
+static void played_command(void)
+{
+    const struct kritnamon_calibration motor = {0.5f, 1.0f}, turned = {1.0f, 0.5f};
+    uint8_t ramp[KRITNAMON_COMMAND_SIZE];
+    int64_t left;
+    float drive;
+
+    CHECK(kritnamon_write_command(3, KRITNAMON_RAMP, 1000, 0, kritnamon_gain_bits(1.0f), ramp, sizeof ramp) == KRITNAMON_DONE);
+    CHECK(kritnamon_play_motor(ramp, sizeof ramp, 250, motor, &left, &drive) == KRITNAMON_DONE && left == 750 && drive == 0.625f);
+    CHECK(kritnamon_play_motor(ramp, sizeof ramp, 1000, motor, &left, &drive) == KRITNAMON_DONE && left == 0 && drive == 0.0f);
+    CHECK(kritnamon_play_motor(ramp, sizeof ramp, 1250, motor, &left, &drive) == KRITNAMON_DONE && left == -250 && drive == 0.0f);
+    left = 1;
+    drive = 1.0f;
+    CHECK(kritnamon_play_motor(ramp, sizeof ramp, 250, turned, &left, &drive) == KRITNAMON_BAD_CALIBRATION);
+    CHECK(left == 0 && kritnamon_gain_bits(drive) == 0);
+}
+
 /* ---- The stack. */
 
 #define STACK_MOST 2048u /* as kritnamon.h has it */
@@ -365,6 +383,7 @@ static const struct {
     {"empty-hub", empty_hub},
     {"carried-over", carried_over},
     {"damaged-message", damaged_message},
+    {"played-command", played_command},
     {"stack-use", stack_use},
 };
 

@@ -102,6 +102,11 @@ fn a_damaged_message_is_refused_with_its_place() {
 }
 
 #[test]
+fn a_command_is_played_with_floats() {
+    run("played-command");
+}
+
+#[test]
 fn a_call_takes_less_stack_than_the_header_says() {
     run("stack-use");
 }

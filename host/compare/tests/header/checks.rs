@@ -3,7 +3,7 @@
 
 use crate::numbers::Numbers;
 use compare::binding::{
-    Answer, read_command, read_message, sizes, step, version, write_command, write_message,
+    Answer, play, read_command, read_message, sizes, step, version, write_command, write_message,
 };
 use independent::Outcome;
 use std::fmt::Debug;
@@ -11,13 +11,14 @@ use std::ops::Range;
 
 type Check = fn(&Numbers) -> Result<(), String>;
 
-const CHECKS: [Check; 12] = [
+const CHECKS: [Check; 13] = [
     the_version_is_the_librarys,
     sizes_are_the_librarys,
     a_command_has_its_size,
     a_command_has_its_kinds,
     a_command_has_its_numbers,
     a_proposal_lasts_so_long,
+    an_elapsed_time_is_so_long,
     a_message_has_its_size,
     a_message_has_its_numbers,
     an_entry_has_its_row,
@@ -100,6 +101,19 @@ fn a_proposal_lasts_so_long(header: &Numbers) -> Result<(), String> {
         }
     }
     Ok(())
+}
+
+/// The outcome of a play.
+fn played(bytes: &[u8], elapsed: i64, floor: u32, ceiling: u32) -> Outcome {
+    let (mut left, mut drive) = (1, 1);
+    play(bytes, elapsed, floor, ceiling, &mut left, &mut drive)
+}
+
+/// The longest elapsed time is played, and a longer one is not.
+fn an_elapsed_time_is_so_long(header: &Numbers) -> Result<(), String> {
+    let most = i64::from(header.get("ELAPSED_MOST")?);
+    same("ELAPSED_MOST", played(&STOP, most, 0, WHOLE), Outcome::Done)?;
+    same("one more than ELAPSED_MOST", played(&STOP, most + 1, 0, WHOLE), Outcome::BadElapsed)
 }
 
 // ---- messages
@@ -273,7 +287,7 @@ fn a_restart_looks_at_the_kept_parts(header: &Numbers) -> Result<(), String> {
 type Provocation = fn(&Numbers) -> Result<Outcome, String>;
 
 /// For each outcome a call that gives it.
-const PROVOKED: [(Outcome, Provocation); 14] = [
+const PROVOKED: [(Outcome, Provocation); 17] = [
     (Outcome::Done, |header| Hub::fresh(header, 3)?.outcome("START", b"")),
     (Outcome::NotKnown, |header| Hub::fresh(header, 4)?.outcome("START", b"")),
     (Outcome::BadState, state_cut),
@@ -288,6 +302,9 @@ const PROVOKED: [(Outcome, Provocation); 14] = [
     (Outcome::LogFull, one_more_than_places),
     (Outcome::OutOfRange, |header| Hub::leader(header)?.outcome("SEND", b"")),
     (Outcome::NothingNew, |header| Hub::leader(header)?.outcome("RECEIVE", YES)),
+    (Outcome::NotPlayable, |_| Ok(played(&[], 0, 0, WHOLE))),
+    (Outcome::BadCalibration, |_| Ok(played(&STOP, 0, WHOLE, HALF))),
+    (Outcome::BadElapsed, |_| Ok(played(&STOP, -1, 0, WHOLE))),
 ];
 
 /// An outcome's name in the header: its words in capitals.
