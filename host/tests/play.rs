@@ -205,6 +205,26 @@ fn drives_tell_other_ways_apart() {
     assert_eq!([fused(lowered), double(lowered)], [0x3f02_4b6f; 2]);
 }
 
+/// What examples/drive.c prints of its five commands: the gate compares that with the archive for the machine and with the one that ships.
+#[test]
+fn the_examples_plays() {
+    let path = concat!(env!("CARGO_MANIFEST_DIR"), "/../examples/drive.expected");
+    let text = std::fs::read_to_string(path).expect("the example's text");
+    let (mut command, mut gains, mut plays) = ([0; 16], [0; 2], 0);
+    for line in text.lines() {
+        let words: Vec<&str> = line.split_whitespace().collect();
+        if let &[elapsed, "ms", "left", left, "drive", drive, _] = words.as_slice() {
+            let expected = told(0, left.parse().expect("ms"), u32::from_str_radix(drive, 16).expect("bits"));
+            assert_eq!(play(&command, elapsed.parse().expect("ms"), gains[0], gains[1]), expected, "{line}");
+            plays += 1;
+        } else {
+            command = bytes(words[0]);
+            gains = [1, 2].map(|at| words[at].parse::<f32>().expect("a gain").to_bits());
+        }
+    }
+    assert_eq!(plays, 50);
+}
+
 #[test]
 fn other_lengths_are_no_command() {
     let twice = [bytes(BUZZ), bytes(BUZZ)].concat();

@@ -4,6 +4,7 @@ mod archive;
 mod checking;
 mod cpu;
 mod night;
+mod playing;
 mod reading;
 mod stack;
 mod steps;
@@ -11,11 +12,12 @@ mod table;
 mod writing;
 
 /// The tables, by the names with which they can be asked for.
-const TABLES: [(&str, fn()); 7] = [
+const TABLES: [(&str, fn()); 8] = [
     ("reading", reading::print),
     ("writing", writing::print),
     ("checking", checking::print),
     ("steps", steps::print),
+    ("playing", playing::print),
     ("night", night::print),
     ("archive", archive::print),
     ("stack", stack::print),
