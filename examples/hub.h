@@ -12,7 +12,7 @@
 
 /* What a call may answer beside the library's outcomes: the step could not be stored. Nothing of it was sent or played, and the hub has
  * gone on from what it stored last, as after a loss of power. */
-#define HUB_NOT_STORED (KRITNAMON_NOTHING_NEW + 1u)
+#define HUB_NOT_STORED (KRITNAMON_BAD_ELAPSED + 1u)
 
 struct hub {
     uint32_t n;                          /* hubs in the group */
@@ -59,7 +59,8 @@ bool device_load_played(struct hub *hub);
 /* Sends a text to a peer. It may be lost. */
 void device_send(const struct hub *hub, uint32_t to, const uint8_t *text, size_t length);
 
-/* Gives the command at a place to the motors, which have it when this returns. After a loss of power, the last one may come again. */
+/* Gives the command at a place to its motor, which has it when this returns. What the motor is driven at from then on is told by
+ * kritnamon_play, from the time since the command began. After a loss of power, the last one may come again. */
 void device_play(const struct hub *hub, uint32_t place, const uint8_t *command);
 
 /* Puts the timer for hub_start back: the hub has heard of a leader, or given its vote. Nothing else it hears is a reason to. A hub that has

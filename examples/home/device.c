@@ -1,5 +1,6 @@
 /* The hubs' devices, in memory. Without power a call runs to its end all the same, but nothing comes of it, as if it had stopped. */
 #include "home.h"
+#include "motors.h"
 
 #include <string.h>
 
@@ -82,6 +83,19 @@ void device_send(const struct hub *hub, uint32_t to, const uint8_t *text, size_t
     after(hub, &deed, GOES_WELL);
 }
 
+/* How the motor takes it: from the beginning, or from where it is by now. */
+static void note_drive(const struct hub *hub, uint32_t place, const uint8_t *command, bool first)
+{
+    struct fact fact = {.what = first ? PLAYS_FIRST : PLAYS, .moment = home.now, .hub = hub->own, .number = place};
+    uint32_t outcome = motors_play(command, home.begun[place - 1], home.now, &fact.left, &fact.drive);
+
+    if (outcome != KRITNAMON_DONE) {
+        home_object(hub->own, "played with outcome", outcome);
+    }
+    memcpy(fact.command, command, sizeof fact.command);
+    record_add(&home.record, fact);
+}
+
 /* All hubs have to play what the first one did. */
 static void note_play(const struct hub *hub, uint32_t place, const uint8_t *command)
 {
@@ -89,11 +103,12 @@ static void note_play(const struct hub *hub, uint32_t place, const uint8_t *comm
 
     if (first) {
         home.places = place;
+        home.begun[place - 1] = home.now;
         memcpy(home.chosen[place - 1], command, KRITNAMON_COMMAND_SIZE);
     } else if (memcmp(home.chosen[place - 1], command, KRITNAMON_COMMAND_SIZE) != 0) {
         home_object(hub->own, "another command at place", place);
     }
-    home_note(first ? PLAYS_FIRST : PLAYS, hub->own, place, command);
+    note_drive(hub, place, command, first);
 }
 
 void device_play(const struct hub *hub, uint32_t place, const uint8_t *command)

@@ -12,6 +12,7 @@
 
 /* A moment is a tenth of a second. */
 #define MOMENTS_A_SECOND 10u
+#define MOMENT_MS        100
 
 /* What is there after a loss of power. */
 struct storage {
@@ -53,7 +54,8 @@ struct home {
     uint32_t outcomes[OUTCOMES];
     uint32_t stores, counts; /* how often a state was stored, and how often a count of what was played */
     uint32_t places;         /* how many have been played */
-    uint8_t chosen[KRITNAMON_PLACES][KRITNAMON_COMMAND_SIZE]; /* and what was, by the first hub at each */
+    uint32_t begun[KRITNAMON_PLACES]; /* at which moment each was, by the first hub */
+    uint8_t chosen[KRITNAMON_PLACES][KRITNAMON_COMMAND_SIZE]; /* and what was */
     struct network network;
     struct record record;
     const struct watch *watch;

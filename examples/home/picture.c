@@ -43,7 +43,8 @@ static const char style[] = "text{font:12px Helvetica,Arial,sans-serif}"
                             ".takes{fill:#009e73;stroke:#000}"
                             ".chosen{fill:#000;stroke:#fff;stroke-width:1.5}"
                             ".played{fill:#fff;stroke:#000;stroke-width:1.3}"
-                            ".not-stored{fill:#cc79a7;stroke:#000}";
+                            ".not-stored{fill:#cc79a7;stroke:#000}"
+                            ".drive{fill:#e69f00;fill-opacity:.5;stroke:#000}";
 
 static void draw_head(FILE *file, int height)
 {
@@ -75,6 +76,7 @@ static const struct meaning {
     {"plays place 3 after that", NULL, {.what = PLAYS, .number = 3}, 0},
     {"has no power", "<rect class=\"dead\" x=\"-12\" y=\"-8\" width=\"24\" height=\"16\"/>", {0}, 0},
     {"can't store a step", NULL, {.what = NOT_STORED}, 0},
+    {"motor 7 is driven", "<path class=\"drive\" d=\"M-12 5V1h6V-3h6V-7h6V-11h6V5z\"/><text class=\"small\" y=\"15\">7</text>", {0}, 0},
     {"is cut off from the network", "<rect class=\"cut-off\" x=\"-14\" y=\"-9\" width=\"28\" height=\"18\"/>", {0}, 0},
 };
 

@@ -30,6 +30,8 @@ struct fact {
     uint32_t hub; /* of a message, the one that sent it */
     uint32_t number;
     uint32_t sent;                           /* when a message was sent */
+    int64_t left;                            /* in ms, of a command that is played: below zero, overdue */
+    float drive;                             /* of its motor */
     uint8_t command[KRITNAMON_COMMAND_SIZE]; /* zero where there is none */
 };
 

@@ -7,15 +7,16 @@
 
 #define COLUMN 33 /* the width of a hub's reports, side by side */
 
-/* How each fact is told: # is the hub, @ the number, $ the command. Messages are not told one by one. */
+/* How each fact is told: # is the hub, @ the number, $ the command, % the drive, & how much of it is left. Messages are not told one by
+ * one. */
 static const char *const tellings[] = {
     [ASKS] = "hub # asks for votes, term @",
     [LEADS] = "hub # leads, term @",
     [FOLLOWS] = "hub # follows again, term @",
     [TAKES] = "hub # takes $",
     [WAITS] = "no hub takes $ yet",
-    [PLAYS_FIRST] = "hub # plays place @, now chosen: $",
-    [PLAYS] = "hub # plays place @",
+    [PLAYS_FIRST] = "hub # plays place @, now chosen: $, drive %",
+    [PLAYS] = "hub # plays place @, &",
     [DIES] = "hub # dies",
     [RETURNS] = "hub # comes back, term @",
     [IS_CUT_OFF] = "hub # is cut off from the network",
@@ -25,6 +26,16 @@ static const char *const tellings[] = {
     [LOST] = NULL,
     [ARRIVES] = NULL,
 };
+
+/* A command that another hub has begun to play. */
+static void print_left(const struct fact *fact)
+{
+    if (fact->left > 0) {
+        printf("%" PRId64 " ms left, drive %.2f", fact->left, (double)fact->drive);
+    } else {
+        printf("overdue by %" PRId64 " ms", -fact->left);
+    }
+}
 
 static void print_part(const struct fact *fact, char part)
 {
@@ -37,6 +48,12 @@ static void print_part(const struct fact *fact, char part)
         break;
     case '$':
         fputs(words_of(fact->command), stdout);
+        break;
+    case '%':
+        printf("%.2f", (double)fact->drive);
+        break;
+    case '&':
+        print_left(fact);
         break;
     default:
         putchar(part);

@@ -1,6 +1,7 @@
 #include "strip.h"
 
 #include "home.h"
+#include "motors.h"
 
 #include <inttypes.h>
 
@@ -10,6 +11,8 @@
 #define BAR        16 /* the height of what lasts, on a lane */
 #define PLACE      18 /* the width of a played place */
 #define WORDS      80 /* the width of what is said of a leader */
+#define FULL       36 /* the height of drive 1.0 */
+#define NUMBER     14 /* the width of a motor's number */
 
 static int x_of(const struct strip *strip, uint32_t moment)
 {
@@ -21,6 +24,12 @@ static int y_of(const struct strip *strip, uint32_t hub)
     return strip->top + FIRST_LANE + LANE * ((int)hub - 1);
 }
 
+/* The ground of the motors' lane. */
+static int ground_of(const struct strip *strip)
+{
+    return y_of(strip, HUBS) + LANE + BAR;
+}
+
 /* ---- The ground. */
 
 static void draw_seconds(const struct strip *strip)
@@ -28,7 +37,7 @@ static void draw_seconds(const struct strip *strip)
     for (uint32_t moment = strip->from; moment <= strip->to; moment += MOMENTS_A_SECOND) {
         int x = x_of(strip, moment);
 
-        fprintf(strip->file, "<path class=\"second\" d=\"M%d %dV%d\"/>", x, strip->top + 8, y_of(strip, HUBS) + LANE / 2);
+        fprintf(strip->file, "<path class=\"second\" d=\"M%d %dV%d\"/>", x, strip->top + 8, ground_of(strip));
         fprintf(strip->file, "<text class=\"small\" x=\"%d\" y=\"%d\">%" PRIu32 " s</text>\n", x, strip->top + 4,
                 moment / MOMENTS_A_SECOND);
     }
@@ -42,6 +51,8 @@ static void draw_lanes(const struct strip *strip)
         fprintf(strip->file, "<text class=\"name\" x=\"4\" y=\"%d\">hub %" PRIu32 "</text>", y + 4, hub);
         fprintf(strip->file, "<path class=\"lane\" d=\"M%d %dH%d\"/>\n", STRIP_LEFT, y, x_of(strip, strip->to));
     }
+    fprintf(strip->file, "<text class=\"name\" x=\"4\" y=\"%d\">drive</text>", ground_of(strip));
+    fprintf(strip->file, "<path class=\"lane\" d=\"M%d %dH%d\"/>\n", STRIP_LEFT, ground_of(strip), x_of(strip, strip->to));
 }
 
 /* ---- Messages. */
@@ -116,6 +127,84 @@ static uint32_t end_of(const struct strip *strip, size_t index)
         }
     }
     return strip->night;
+}
+
+/* ---- What the motors are driven at. */
+
+static float drive_at(const struct fact *fact, uint32_t moment)
+{
+    int64_t left;
+    float drive;
+
+    motors_play(fact->command, fact->moment, moment, &left, &drive);
+    return drive;
+}
+
+/* When a motor's command ends that began with the fact at an index: at its next one, if that comes. */
+static uint32_t next_of(const struct strip *strip, size_t index)
+{
+    const struct fact *began = &strip->record->facts[index];
+
+    while (++index < strip->record->count) {
+        const struct fact *fact = &strip->record->facts[index];
+
+        if (fact->what == PLAYS_FIRST && motors_number(fact->command) == motors_number(began->command)) {
+            return fact->moment;
+        }
+    }
+    return strip->night;
+}
+
+/* The first moment of some at which a command drives its motor; the end of them if none does. */
+static uint32_t driven_from(const struct fact *fact, uint32_t from, uint32_t to)
+{
+    while (from < to && drive_at(fact, from) == 0) {
+        from++;
+    }
+    return from;
+}
+
+/* Its drives, moment by moment, as long as they are above 0. */
+static void draw_drives(const struct strip *strip, const struct fact *fact, uint32_t from, uint32_t to)
+{
+    int ground = ground_of(strip);
+
+    fprintf(strip->file, "<path class=\"drive\" d=\"M%d %d", x_of(strip, from), ground);
+    for (uint32_t moment = from; moment < to && drive_at(fact, moment) > 0; moment++) {
+        fprintf(strip->file, "V%dh%d", ground - (int)(FULL * drive_at(fact, moment)), STRIP_MOMENT);
+    }
+    fprintf(strip->file, "V%dz\"/>\n", ground);
+}
+
+/* The drives of the command that is first played at an index, and its motor's number, from x on at least. Hands back the least x for the
+ * next number: those of motors that are driven from one moment on stand side by side. */
+static int draw_motor(const struct strip *strip, size_t index, int least)
+{
+    const struct fact *fact = &strip->record->facts[index];
+    uint32_t next = next_of(strip, index);
+    uint32_t to = next < strip->to ? next : strip->to;
+    uint32_t from = driven_from(fact, fact->moment < strip->from ? strip->from : fact->moment, to);
+    int x = x_of(strip, from) + NUMBER / 2;
+
+    if (from >= to) {
+        return least;
+    }
+    x = x < least ? least : x;
+    draw_drives(strip, fact, from, to);
+    fprintf(strip->file, "<text class=\"small\" x=\"%d\" y=\"%d\">%" PRIu32 "</text>\n", x, ground_of(strip) + 12,
+            motors_number(fact->command));
+    return x + NUMBER;
+}
+
+static void draw_motors(const struct strip *strip)
+{
+    int least = 0;
+
+    for (size_t index = 0; index < strip->record->count; index++) {
+        if (strip->record->facts[index].what == PLAYS_FIRST) {
+            least = draw_motor(strip, index, least);
+        }
+    }
 }
 
 static void draw_bar(FILE *file, const char *class, int x, int y, int width, int height)
@@ -203,6 +292,7 @@ static void draw_marks(const struct strip *strip)
 void strip_draw(const struct strip *strip)
 {
     draw_seconds(strip);
+    draw_motors(strip);
     draw_messages(strip);
     draw_lanes(strip);
     draw_all_lasting(strip, LEADS);

@@ -1,4 +1,4 @@
-/* One strip of the night's picture: a lane for each hub, time from left to right. */
+/* One strip of the night's picture: a lane for each hub, and one for what the motors are driven at, time from left to right. */
 #ifndef STRIP_H
 #define STRIP_H
 
@@ -9,7 +9,7 @@
 /* In pixels. */
 #define STRIP_LEFT   48  /* before the lanes, where their names stand */
 #define STRIP_MOMENT 6   /* how wide a moment is */
-#define STRIP_HEIGHT 172
+#define STRIP_HEIGHT 224
 
 struct strip {
     FILE *file;
