@@ -1,3 +1,5 @@
 pub mod UnitsLaws
 pub mod RoundLaws
+pub mod PartLaws
 pub mod BetweenLaws
+pub mod WithinLaws

@@ -19,7 +19,8 @@ use Rattle.command.specs.Command.{isGain, gain-most, duration-most}
 use Rattle.command.proofs.Tests.{by-test}
 use Rattle.floats.proofs.UnitsLaws.{Is, is-le, le-is, is-lt, lt-is, not-lt-is, is-div}
 use Rattle.floats.proofs.RoundLaws.{unity, some, Rounds, round-le, round-le-over}
-use Rattle.floats.proofs.BetweenLaws.{Part, Rounded, Small, not-above}
+use Rattle.floats.proofs.PartLaws.{Part, Rounded, not-above}
+use Rattle.floats.proofs.WithinLaws.{Small}
 use Rattle.play.specs.Play.{nought, one, whole, held}
 use Rattle.play.proofs.PlayLaws.{held-low, held-same}
 use Rattle.play.proofs.WholeLaws.{whole-is-exact, rescale}

@@ -18,7 +18,7 @@ use Rattle.command.specs.declared.Case.the-variants.{Stop, Buzz, Ramp}
 use Rattle.command.proofs.Tests.{by-test}
 use Rattle.command.proofs.CommandLaws.{legal-fields}
 use Rattle.command.proofs.AnswersLaws.{isCommand-legal}
-use Rattle.floats.proofs.BetweenLaws.{Small, between-part, between-least, rises-within, falls-within, rises, falls}
+use Rattle.floats.proofs.WithinLaws.{Small, between-part, between-least, rises-within, falls-within, rises, falls}
 use Rattle.play.specs.Play.{gain, nought, whole, between, held, levelOf, driveOf, driveAt, isCalibration, isElapsed, Timed}
 use Rattle.play.specs.Answer.{drives, motionPlayed, played, resultOf, calibrationOf}
 use Rattle.play.specs.Theorems.{OnRamp, LevelIsUnheld, LevelRisesWithin, LevelFallsWithin, LevelRises, LevelFalls}
