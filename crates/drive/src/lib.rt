@@ -13,7 +13,7 @@ use play::Calibration;
 const LEADING: u32 = 0x80_0000;
 // How many zeros stand in front of 24 binary digits.
 const BEFORE: u32 = 8;
-// The exponent of a number without a zero in front of its 32 binary digits.
+// The exponent of a number without a zero in front of its 32 binary digits, less the one that the leading digit adds.
 const EXPONENT: u32 = 157;
 
 // A number's binary digits, moved up until there are 24 of them.

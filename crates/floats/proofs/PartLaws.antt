@@ -37,8 +37,8 @@ module _ (f : Format) where
     pub from : Rounds f n c (part .at)
 
   -- What is not above a fraction that is rounded to 1 or less is rounded so too.
-  pub rounded : (z : Float) (n c n′ c′ g : ℕ) → 0 < c → 0 < c′ → n * c′ ≤ n′ * c → Rounds f n′ c′ g → g ≤ u → z ≡ round f false n c
-      → T (fits f z) → Rounded n c z
+  pub rounded : (z : Float) (n c n′ c′ g : ℕ) → 0 < c → 0 < c′ → n * c′ ≤ n′ * c → Rounds f n′ c′ g → g ≤ u
+      → z ≡ round f false n c → T (fits f z) → Rounded n c z
   rounded z n c n′ c′ g C C′ h v m e t =
       let own = rounds f n c n′ c′ g C C′ h v in
       record {

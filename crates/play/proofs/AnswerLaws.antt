@@ -106,6 +106,7 @@ module _ (l : List ℕ) (r : Read) (h : ReadsCommand l r) where
 -- ---- one answer
 
 -- No second outcome, time left and drive meet the promise.
-pub played-unique : {w : PlayResult} {outcome outcome′ : ℕ} {left left′ : ℤ} {drive drive′ : ℕ} → IsPlayed w outcome left drive → IsPlayed w outcome′ left′ drive′
+pub played-unique : {w : PlayResult} {outcome outcome′ : ℕ} {left left′ : ℤ} {drive drive′ : ℕ}
+    → IsPlayed w outcome left drive → IsPlayed w outcome′ left′ drive′
     → (outcome ≡ outcome′) × (left ≡ left′) × (drive ≡ drive′)
 played-unique a b = (a .outcome-is ∙ sym (b .outcome-is), a .left-is ∙ sym (b .left-is), a .drive-is ∙ sym (b .drive-is))

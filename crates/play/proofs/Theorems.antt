@@ -27,7 +27,8 @@ use Rattle.play.specs.declared.Calibration.{Calibration}
 use Rattle.play.specs.declared.Played.{Played}
 use Rattle.play.specs.declared.Played.the-variants.{NotPlayable}
 use Rattle.play.proofs.PlayLaws.{drive-none}
-use Rattle.play.proofs.GainLaws.{Gain, gain-of-bits, gain-of, gain-bits, gain-nought, nought-least, above-nought, held-gain, quotient, quotient-small, quotient-grows}
+use Rattle.play.proofs.GainLaws.{Gain, gain-of-bits, gain-of, gain-bits, gain-nought, nought-least, above-nought, held-gain}
+use Rattle.play.proofs.GainLaws.{quotient, quotient-small, quotient-grows}
 use Rattle.play.proofs.AnswerLaws.{legal-timed}
 
 -- ---- a ramp's level
@@ -165,7 +166,8 @@ level-gain Stop d e g l m = gain-nought
 level-gain (Buzz level) d e g l m = g
 level-gain (Ramp from to) d e g l m = moved-gain from to _ (g .0) (g .1) (quotient d m e l .part)
 
-driveAt-gain : (cal : Calibration) → Calibrated cal → (case : Case) (duration elapsed : ℤ) → Gains case → Timed duration → isElapsed elapsed ≡ true
+driveAt-gain : (cal : Calibration) → Calibrated cal → (case : Case) (duration elapsed : ℤ)
+    → Gains case → Timed duration → isElapsed elapsed ≡ true
     → Gain (driveAt cal case duration elapsed)
 unfolding driveAt isElapsed
 driveAt-gain cal k case duration (pos e) g t u =

@@ -31,7 +31,8 @@ drives-numbers p left gain drive fits is e =
 
 -- The whole call.
 pub played-numbers : (l : List ℕ) (elapsed : ℤ) (floor ceiling : ℕ) (cal : Calibration) (p : Played) (outcome : ℕ) (left : ℤ) (drive : ℕ)
-    → SFits w64 elapsed → cal ≡ calibrationOf floor ceiling → p ≡ played l (toZ w64 (ofZ w64 elapsed)) cal → IsPlayed (resultOf p) outcome left drive
+    → SFits w64 elapsed → cal ≡ calibrationOf floor ceiling → p ≡ played l (toZ w64 (ofZ w64 elapsed)) cal
+    → IsPlayed (resultOf p) outcome left drive
     → IsPlayed (resultOf (played l elapsed (calibrationOf floor ceiling))) outcome left drive
 played-numbers l elapsed floor ceiling cal p outcome left drive fits e f h =
     subst (λ q. IsPlayed (resultOf q) outcome left drive) (f ∙ (λ i. played l (toZ-ofZ fits i) (e i))) h
