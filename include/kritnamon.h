@@ -140,12 +140,13 @@ uint32_t kritnamon_write_command(uint32_t motor, uint32_t kind, int32_t duration
  * command that comes late, at a hub that was without power say, is asked for like any other: one that
  * is over drives nothing, and its time left, below zero, is by how much it is overdue.
  *
- * A motor's calibration is two gains, its floor and its ceiling. The level of a buzz is its gain; that of
- * a ramp is from + (to - from) * (elapsed / duration), which lies between from and to and does not turn
- * back. Where the level is above 0 the drive is floor + (ceiling - floor) * level; at level 0, at the end
- * of the duration and past it, and for a stop it is 0. Each of these operations is one of float, rounded
- * once, in this order, so that all hubs drive alike to the last bit. The drive is never below the floor
- * where the level is above 0; its rounding may lift it above the ceiling, and never above 1.0. */
+ * A motor's calibration is two gains, its floor and its ceiling. The level of a buzz is its gain;
+ * that of a ramp is from + (to - from) * (elapsed / duration), which begins at from, lies between
+ * from and to, and does not turn back. Where the level is above 0 the drive is floor + (ceiling -
+ * floor) * level; at level 0, at the end of the duration and past it, and for a stop it is 0. Each
+ * of these operations is one of float, rounded once, in this order, so that all hubs drive alike to
+ * the last bit. The drive is never below the floor where the level is above 0; its rounding may lift
+ * it above the ceiling, and never above 1.0. */
 
 #define KRITNAMON_ELAPSED_MOST 2147483647u  /* ms */
 

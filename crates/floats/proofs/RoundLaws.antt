@@ -164,3 +164,9 @@ module _ (f : Format) where
       round-exact f false n unity n 0 some few
       (lt-of-le-of-lt (le-of-eq (mul-one n)) (lt-of-lt-of-le few (pow-mono (omega (arith, reach f)))))
       (ap (λ (x : ℕ). x * unity) (sym (mul-one n)))
+
+  -- 0 is rounded to 0.
+  pub rounds-none : (c g : ℕ) → 0 < c → Rounds 0 c g → g ≡ 0
+  rounds-none c g C v =
+      let none : Rounds 0 unity 0 = undropped 0 (omega (arith, size-over 0, size-le 0 0 (pow-pos 0))) in
+      omega (arith, round-le 0 c 0 unity 0 C some (le-of-eq (zero-mul unity ∙ sym (zero-mul c))) none g v)

@@ -1,10 +1,11 @@
--- x + (y - x) * q of values of 0 to 1, compared as floats: it does not turn back as q grows, and where q is well below 1 it lies between x and y.
+-- x + (y - x) * q of values of 0 to 1, compared as floats: it begins at x, does not turn back as q grows, and where q is well below 1 it lies between
+-- x and y.
 -- In either format. Assumes nothing.
 use Prim.Native.Nat.{ℕ, _+_, _-_, _*_, _/_, _^_, _≤_, _<_}
 use native.Mathlib.Omega.{arith}
 use native.Mathlib.Nat.{mul-assoc, mul-comm, mul-one, mul-right-comm, add-mul, div-one, le-trans, le-of-eq, lt-of-le-of-lt}
-use native.Mathlib.Nat.{mul-le-mul-left, mul-le-mul-right, le-of-mul-le-mul-right}
-use mathlib.Core.Path.{_≡_, sym, _∙_, ap}
+use native.Mathlib.Nat.{mul-zero, mul-le-mul-left, mul-le-mul-right, le-of-mul-le-mul-right}
+use mathlib.Core.Path.{_≡_, sym, _∙_, ap, subst}
 use mathlib.Core.Bool.{true, false}
 use borrow.Author.Tests.{ltb-true, ltb-false}
 use lib.Dec.{ltb, lit≤}
@@ -16,7 +17,7 @@ use lib.Ieee.Nearest.{div-mono}
 use lib.Ieee.Scale.{grid}
 use Rattle.command.proofs.Tests.{by-test}
 use Rattle.floats.proofs.UnitsLaws.{is-same, is-le, le-is, is-lt, is-not-lt}
-use Rattle.floats.proofs.RoundLaws.{unity, some, round-le-over, rounds-grid, dropped, grid-near, size-over, undropped}
+use Rattle.floats.proofs.RoundLaws.{unity, some, Rounds, rounds-none, round-le-over, rounds-grid, dropped, grid-near, size-over, undropped}
 use Rattle.floats.proofs.PartLaws.{square, Part, self, difference, product, product-most}
 use Rattle.floats.proofs.BetweenLaws.{between, moved, upward, upward-least, upward-grows, under, downward, downward-most, downward-falls}
 
@@ -124,6 +125,25 @@ module _ (f : Format) where
           round-le-over f u (r .at) _ _ _ (some f) (omega (arith, moved-little x y p r (under f x y p r h))) (self f y r)
           (downward f x y p r h q b .from)
 
+  -- ---- where q is 0
+
+  moved-none : (q : Float) (b : Part f q) → b .at ≡ 0 → (x y : Float) (p : Part f x) (r : Part f y) (h : r .at ≤ p .at) → moved f x y q p r h b ≡ 0
+  moved-none q b z x y p r h =
+      let d = difference f x p y r h .part in
+      let m = product f (sub f x y) d q b in
+      let none : d .at * b .at ≡ 0 = ap (λ (k : ℕ). d .at * k) z ∙ mul-zero (d .at) in
+      rounds-none f (u * u) (m .part .at) (square f) (subst (λ (n : ℕ). Rounds f n (u * u) (m .part .at)) none (m .from))
+
+  module _ (q : Float) (b : Part f q) (z : b .at ≡ 0) (x y : Float) (p : Part f x) (r : Part f y) where
+    upward-none : (h : p .at ≤ r .at) → upward f x y p r h q b .part .at ≤ p .at
+    upward-none h =
+        round-le-over f u _ (p .at) _ _ (some f) (omega (arith, moved-none q b z y x r p h)) (upward f x y p r h q b .from) (self f x p)
+
+    downward-none : (h : r .at < p .at) → p .at ≤ downward f x y p r h q b .part .at
+    downward-none h =
+        round-le-over f u (p .at) _ _ _ (some f) (omega (arith, moved-none q b z x y p r (under f x y p r h))) (self f x p)
+        (downward f x y p r h q b .from)
+
   -- ---- the same of floats
 
   module _ (x y q : Float) (p : Part f x) (r : Part f y) (b : Part f q) where
@@ -146,6 +166,16 @@ module _ (f : Format) where
     -- Upwards never below x.
     pub between-least : lt y x ≡ false → le x (between f x y q) ≡ true
     between-least h = let e = not-below h in part-le x _ p (upward f x y p r e q b .part) (upward-least f x y p r e q b)
+
+    -- Where q is 0: x.
+    pub between-none : b .at ≡ 0 → (le x (between f x y q) ≡ true) × (le (between f x y q) x ≡ true)
+    between-none z =
+        by-test (lt y x)
+        (λ t.
+        let e = below t in
+        let w = downward f x y p r e q b .part in
+        (part-le x _ p w (downward-none q b z x y p r e), part-le _ x w p (downward-most f x y p r e q b)))
+        (λ t. let e = not-below t in (between-least t, part-le _ x (upward f x y p r e q b .part) p (upward-none q b z x y p r e)))
 
     -- Where q is well below 1: from x to y, or from y to x.
     pub rises-within : Small (b .at) → lt y x ≡ false → (le x (between f x y q) ≡ true) × (le (between f x y q) y ≡ true)

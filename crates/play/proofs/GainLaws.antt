@@ -18,7 +18,7 @@ use lib.Ieee.Back.{whole-unique}
 use Rattle.command.specs.Command.{isGain, gain-most, duration-most}
 use Rattle.command.proofs.Tests.{by-test}
 use Rattle.floats.proofs.UnitsLaws.{Is, is-le, le-is, is-lt, lt-is, not-lt-is, is-div}
-use Rattle.floats.proofs.RoundLaws.{unity, some, Rounds, round-le, round-le-over}
+use Rattle.floats.proofs.RoundLaws.{unity, some, Rounds, rounds-none, round-le, round-le-over}
 use Rattle.floats.proofs.PartLaws.{Part, Rounded, not-above}
 use Rattle.floats.proofs.WithinLaws.{Small}
 use Rattle.play.specs.Play.{nought, one, whole, held}
@@ -169,6 +169,10 @@ module _ (d : ℕ) (m : d ≤ duration-most) where
         let under : quotient .part .at ≤ n =
         round-le binary32 e d 599_999 600_000 n (omega arith) (omega arith) (omega arith) greatest (quotient .part .at) (quotient .from) in
         le-trans (mul-le-mul-right 1_048_576 under) (lit≤ tt)
+
+  -- No time over it is nothing.
+  pub quotient-none : (l : 0 < d) → quotient 0 l .part .at ≡ 0
+  quotient-none l = let q = quotient 0 l in rounds-none binary32 d (q .part .at) l (q .from)
 
   -- A longer time over it is no less.
   pub quotient-grows : (e e′ : ℕ) (l : e < d) (l′ : e′ < d) → e ≤ e′

@@ -18,17 +18,17 @@ use Rattle.command.specs.declared.Case.the-variants.{Stop, Buzz, Ramp}
 use Rattle.command.proofs.Tests.{by-test}
 use Rattle.command.proofs.CommandLaws.{legal-fields}
 use Rattle.command.proofs.AnswersLaws.{isCommand-legal}
-use Rattle.floats.proofs.WithinLaws.{Small, between-part, between-least, rises-within, falls-within, rises, falls}
+use Rattle.floats.proofs.WithinLaws.{Small, between-part, between-least, between-none, rises-within, falls-within, rises, falls}
 use Rattle.play.specs.Play.{gain, nought, whole, between, held, levelOf, driveOf, driveAt, isCalibration, isElapsed, Timed}
 use Rattle.play.specs.Answer.{drives, motionPlayed, played, resultOf, calibrationOf}
-use Rattle.play.specs.Theorems.{OnRamp, LevelIsUnheld, LevelRisesWithin, LevelFallsWithin, LevelRises, LevelFalls}
+use Rattle.play.specs.Theorems.{OnRamp, LevelIsUnheld, LevelBegins, LevelRisesWithin, LevelFallsWithin, LevelRises, LevelFalls}
 use Rattle.play.specs.Theorems.{DriveIsUnheld, DriveIsNotBelowFloor, DriveFollowsLevel, DriveIsGain, OverdueIsNoError}
 use Rattle.play.specs.declared.Calibration.{Calibration}
 use Rattle.play.specs.declared.Played.{Played}
 use Rattle.play.specs.declared.Played.the-variants.{NotPlayable}
 use Rattle.play.proofs.PlayLaws.{drive-none}
 use Rattle.play.proofs.GainLaws.{Gain, gain-of-bits, gain-of, gain-bits, gain-nought, nought-least, above-nought, held-gain}
-use Rattle.play.proofs.GainLaws.{quotient, quotient-small, quotient-grows}
+use Rattle.play.proofs.GainLaws.{quotient, quotient-small, quotient-none, quotient-grows}
 use Rattle.play.proofs.AnswerLaws.{legal-timed}
 
 -- ---- a ramp's level
@@ -60,6 +60,12 @@ module _ {from to duration elapsed : ℕ} (r : OnRamp from to duration elapsed) 
 pub level-is-unheld : LevelIsUnheld
 unfolding levelOf
 level-is-unheld from to duration elapsed r = unheld _ _ _ (from-gain r) (to-gain r) (part r)
+
+pub level-begins : LevelBegins
+unfolding part
+level-begins from to duration r =
+    rw (level-is-unheld from to duration 0 r)
+    (between-none binary32 _ _ _ (from-gain r) (to-gain r) (part r) (quotient-none duration (r .most) (r .during)))
 
 pub level-rises-within : LevelRisesWithin
 level-rises-within from to duration elapsed r h =

@@ -1,4 +1,4 @@
--- The table of calls, computed. Assumes nothing.
+-- The tables, computed. Assumes nothing.
 use mathlib.Core.Path.{refl}
 use lib.Ieee.{add, sub, mul, div, lt, le, ofInt, ofBits, toBits}
 use Rattle.kinds.specs.Sizes.{between}
@@ -14,4 +14,4 @@ pub vectors-hold : VectorsHold
 unfolding add sub mul div lt le ofInt ofBits toBits between word value part wordAt signed unsigned
     isGain isDuration isZero isStop isBuzz isRamp legalCommand commandBytes commandOf caseOf motionOf isCommand
     held levelOf driveOf driveAt isCalibration isElapsed drives motionPlayed played
-vectors-hold = refl
+vectors-hold = record { calls = refl; conversions = refl }

@@ -50,7 +50,13 @@ LevelIsUnheld =
     (from to duration elapsed : ℕ) → OnRamp from to duration elapsed
     → rampLevel from to duration elapsed ≡ between (gain from) (gain to) (div binary32 (whole (pos elapsed)) (whole (pos duration)))
 
--- It lies between from and to, whichever is the lower,
+-- It begins at from,
+abbrev pub LevelBegins : Type 0
+LevelBegins =
+    (from to duration : ℕ) → OnRamp from to duration 0
+    → Within (gain from) (rampLevel from to duration 0) (gain from)
+
+-- lies between from and to, whichever is the lower,
 abbrev pub LevelRisesWithin : Type 0
 LevelRisesWithin =
     (from to duration elapsed : ℕ) → OnRamp from to duration elapsed → FallsNot from to

@@ -1,11 +1,13 @@
--- Commands played, by examples (rule R47): a table of calls, and what each answers. With a floor of 0 and a ceiling of 1.0 the drive is the level.
--- Assumes nothing.
+-- Commands played, by examples (rule R47): a table of calls, and what each answers. With a floor of 0 and a ceiling of 1.0 the drive is the level. And
+-- a table of whole numbers. Assumes nothing.
 use Prim.Native.Nat.{ℕ}
 use mathlib.Core.List.{List, [], _∷_, _++_, map}
 use mathlib.Core.Path.{_≡_}
 use lib.IntN.{ℤ, pos, negsuc}
+use lib.Ieee.{binary32, toBits}
 use Rattle.kinds.specs.Outcome.{done, not-playable, bad-calibration, bad-elapsed}
 use Rattle.command.specs.Command.{Command, commandBytes}
+use Rattle.play.specs.Play.{whole}
 use Rattle.play.specs.Answer.{PlayResult, resultOf, played, calibrationOf, refusedWith}
 
 -- A call, and what it answers.
@@ -56,8 +58,8 @@ abbrev at-full : Command → ℕ → ℤ → ℕ → Vector
 at-full c elapsed left level = record { command = c; elapsed = pos elapsed; floor = 0; ceiling = full; answers = gives left level }
 
 -- A call at any calibration.
-abbrev between : ℕ → ℕ → Command → ℤ → PlayResult → Vector
-between floor ceiling c elapsed answers = record { command = c; elapsed = elapsed; floor = floor; ceiling = ceiling; answers = answers }
+abbrev calibrated : ℕ → ℕ → Command → ℤ → PlayResult → Vector
+calibrated floor ceiling c elapsed answers = record { command = c; elapsed = elapsed; floor = floor; ceiling = ceiling; answers = answers }
 
 -- ---- levels
 
@@ -92,11 +94,11 @@ ends =
 -- At level 0 there is no floor. Floor and ceiling the same. A rounding lifts the drive above its ceiling. Half between half and 1.0.
 abbrev driven : List Vector
 driven =
-    between half full (buzz 250 0) (pos 0) (gives (pos 250) 0)
-    ∷ between half full (ramp 0 full 1_000) (pos 0) (gives (pos 1_000) 0)
-    ∷ between half half (ramp 0 full 1_000) (pos 250) (gives (pos 750) half)
-    ∷ between 0x3eaa_aaab 0x3f7f_ffff (buzz 250 full) (pos 0) (gives (pos 250) full)
-    ∷ between half full (buzz 250 half) (pos 0) (gives (pos 250) 0x3f40_0000)
+    calibrated half full (buzz 250 0) (pos 0) (gives (pos 250) 0)
+    ∷ calibrated half full (ramp 0 full 1_000) (pos 0) (gives (pos 1_000) 0)
+    ∷ calibrated half half (ramp 0 full 1_000) (pos 250) (gives (pos 750) half)
+    ∷ calibrated 0x3eaa_aaab 0x3f7f_ffff (buzz 250 full) (pos 0) (gives (pos 250) full)
+    ∷ calibrated half full (buzz 250 half) (pos 0) (gives (pos 250) 0x3f40_0000)
     ∷ []
 
 -- ---- refusals
@@ -104,22 +106,48 @@ driven =
 -- Three that are wrong in all three ways, in two, and in one; then each way of a calibration and of an elapsed time.
 abbrev refusals : List Vector
 refusals =
-    between 0 not-a-number nobodys (negsuc 0) (refusedWith not-playable)
-    ∷ between 0 not-a-number stop (negsuc 0) (refusedWith bad-calibration)
-    ∷ between 0 full stop (negsuc 0) (refusedWith bad-elapsed)
-    ∷ between minus-nought full stop (pos 0) (refusedWith bad-calibration)
-    ∷ between 0 0x3f80_0001 stop (pos 0) (refusedWith bad-calibration)
-    ∷ between full half stop (pos 0) (refusedWith bad-calibration)
-    ∷ between 0 full stop (pos 2_147_483_648) (refusedWith bad-elapsed)
+    calibrated 0 not-a-number nobodys (negsuc 0) (refusedWith not-playable)
+    ∷ calibrated 0 not-a-number stop (negsuc 0) (refusedWith bad-calibration)
+    ∷ calibrated 0 full stop (negsuc 0) (refusedWith bad-elapsed)
+    ∷ calibrated minus-nought full stop (pos 0) (refusedWith bad-calibration)
+    ∷ calibrated 0 0x3f80_0001 stop (pos 0) (refusedWith bad-calibration)
+    ∷ calibrated full half stop (pos 0) (refusedWith bad-calibration)
+    ∷ calibrated 0 full stop (pos 2_147_483_648) (refusedWith bad-elapsed)
     ∷ []
 
 -- What a call comes to.
 abbrev pub comesTo : Vector → PlayResult
 comesTo v = resultOf (played (commandBytes (v .command)) (v .elapsed) (calibrationOf (v .floor) (v .ceiling)))
 
--- The table, and what it says: each call comes to what its row answers.
+-- The table.
 abbrev pub vectors : List Vector
 vectors = levels ++ (ends ++ (driven ++ refusals))
 
-abbrev pub VectorsHold : Type 0
-VectorsHold = map comesTo vectors ≡ map (λ v. v .answers) vectors
+-- ---- whole numbers
+
+-- A number, and its bits as a binary32.
+pub record Whole : Type 0 where
+  pub number : ℕ
+  pub bits : ℕ
+
+abbrev is : ℕ → ℕ → Whole
+is number bits = record { number = number; bits = bits }
+
+-- The least, both sides of a power of two, and the greatest.
+abbrev pub wholes : List Whole
+wholes =
+    is 0 0
+    ∷ is 1 0x3f80_0000
+    ∷ is 3 0x4040_0000
+    ∷ is 524_287 0x48ff_ffe0
+    ∷ is 524_288 0x4900_0000
+    ∷ is 599_999 0x4912_7bf0
+    ∷ is 600_000 0x4912_7c00
+    ∷ []
+
+-- ---- what the tables say
+
+-- Each call comes to what its row answers, each number to its bits.
+pub record VectorsHold : Type 0 where
+  pub calls : map comesTo vectors ≡ map (λ v. v .answers) vectors
+  pub conversions : map (λ w. toBits binary32 (whole (pos (w .number)))) wholes ≡ map (λ w. w .bits) wholes
