@@ -49,8 +49,8 @@ fn held_within(x: f32) -> f32
     x
 }
 
-// From x towards y by a part of the way.
-fn moved(x: f32, y: f32, part: f32) -> f32
+// From x toward y by a part of the way.
+fn toward(x: f32, y: f32, part: f32) -> f32
     ensures { λ r. ⌜ r ≡ held (between x y part) ⌝ }
 {
     held_within(x + (y - x) * part)
@@ -63,7 +63,7 @@ fn level_of(case: Case, duration: u32, elapsed: u32) -> f32
     match case {
         Case::Stop => 0.0,
         Case::Buzz(gain) => gain,
-        Case::Ramp(from, to) => moved(from, to, whole_of(elapsed) / whole_of(duration)),
+        Case::Ramp(from, to) => toward(from, to, whole_of(elapsed) / whole_of(duration)),
     }
 }
 
@@ -71,7 +71,7 @@ fn drive_of(cal: Calibration, level: f32) -> f32
     ensures { λ r. ⌜ r ≡ driveOf cal level ⌝ }
 {
     if level > 0.0 {
-        return moved(cal.floor, cal.ceiling, level);
+        return toward(cal.floor, cal.ceiling, level);
     }
     0.0
 }

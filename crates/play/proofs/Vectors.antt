@@ -1,4 +1,5 @@
 -- The tables, computed. Assumes nothing.
+use native.Mathlib.Omega.{arith}
 use mathlib.Core.Path.{refl}
 use lib.Ieee.{add, sub, mul, div, lt, le, ofInt, ofBits, toBits}
 use Rattle.kinds.specs.Sizes.{between}
@@ -14,4 +15,10 @@ pub vectors-hold : VectorsHold
 unfolding add sub mul div lt le ofInt ofBits toBits between word value part wordAt signed unsigned
     isGain isDuration isZero isStop isBuzz isRamp legalCommand commandBytes commandOf caseOf motionOf isCommand
     held levelOf driveOf driveAt isCalibration isElapsed drives motionPlayed played
-vectors-hold = record { calls = refl; conversions = refl }
+vectors-hold =
+    record {
+      calls = refl;
+      conversions = refl;
+      on-ramp = record { from-in = refl; to-in = refl; during = omega arith; most = omega arith };
+      on-motor = record { calibrated = refl; level-in = refl };
+    }

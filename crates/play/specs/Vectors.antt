@@ -9,6 +9,7 @@ use Rattle.kinds.specs.Outcome.{done, not-playable, bad-calibration, bad-elapse
 use Rattle.command.specs.Command.{Command, commandBytes}
 use Rattle.play.specs.Play.{whole}
 use Rattle.play.specs.Answer.{PlayResult, resultOf, played, calibrationOf, refusedWith}
+use Rattle.play.specs.Theorems.{OnRamp, OnMotor}
 
 -- A call, and what it answers.
 pub record Vector : Type 0 where
@@ -147,7 +148,9 @@ wholes =
 
 -- ---- what the tables say
 
--- Each call comes to what its row answers, each number to its bits.
+-- Each call comes to what its row answers, each number to its bits; and the theorems are about something: half-way up a ramp, and a motor that is driven.
 pub record VectorsHold : Type 0 where
   pub calls : map comesTo vectors ≡ map (λ v. v .answers) vectors
   pub conversions : map (λ w. toBits binary32 (whole (pos (w .number)))) wholes ≡ map (λ w. w .bits) wholes
+  pub on-ramp : OnRamp 0 full 1_000 500
+  pub on-motor : OnMotor half full half

@@ -42,6 +42,7 @@ fn duration_of(duration: i32) -> u32
     duration as u32
 }
 
+// Below zero where the command is overdue.
 fn time_left(duration: u32, elapsed: u32) -> i64
     ensures { λ r. ⌜ r ≡ timeLeft (pos duration) (pos elapsed) ⌝ }
 {
