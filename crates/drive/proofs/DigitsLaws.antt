@@ -5,16 +5,17 @@ use native.Mathlib.Omega.{arith}
 use native.Mathlib.Nat.{mul-assoc, mul-one, mod-eq-of-lt, mul-le-mul-right, le-trans, le-of-eq, lt-of-lt-of-le, not-le-of-lt}
 use mathlib.Core.Path.{_≡_, refl, sym, _∙_, ap, subst}
 use mathlib.Core.Bool.{false, not}
-use borrow.Author.Tests.{lt-leb, le-ltb, ltb-true, ltb-false, ne-eqb}
+use borrow.Author.Tests.{lt-leb, ltb-true, ltb-false, ne-eqb}
 use lib.Count.{leadingZeros, leading-top}
 use lib.Dec.{T, leb, ltb}
 use lib.IntN.{pos}
 use lib.Pow.{pow-pos, pow-add, pow-mono, shl-lt}
 use lib.Ieee.{Float, binary32, ofBits, ofFields, ofInt, odd, nanBits}
 use lib.Ieee.Exact.{HasValue, odd-sign}
-use lib.Ieee.Bits.{ofBits-fits, nanBits-above}
+use lib.Ieee.Bits.{ofBits-fits}
 use Rattle.command.specs.Command.{duration-most}
 use Rattle.command.proofs.Tests.{by-test}
+use Rattle.command.proofs.CaseLaws.{bits-no-nan}
 use Rattle.play.specs.Play.{nought, whole, IsNumber}
 use Rattle.play.proofs.WholeLaws.{rescale, number-is-whole}
 use Rattle.drive.specs.Digits.{Moved}
@@ -69,12 +70,6 @@ module _ (m e : ℕ) (leading : 0x80_0000 ≤ m) (few : m < 0x100_0000) (low : e
   bits-value : HasValue (ofBits binary32 (e * 0x80_0000 + m)) false (m * 2 ^ e) (2 ^ 149)
   bits-value = subst (λ (x : Float). HasValue x false (m * 2 ^ e) (2 ^ 149)) (sym opened) (odd-sign 24 false m e 149)
 
-  bits-no-nan : T (not (nanBits binary32 (e * 0x80_0000 + m)))
-  bits-no-nan =
-      let b = e * 0x80_0000 + m in
-      let t : nanBits binary32 b ≡ false = nanBits-above binary32 b ∙ le-ltb 0x7f80_0000 (b % 0x8000_0000) (omega arith) in
-      rw t tt
-
 -- 0 is +0.
 pub whole-none : (n : ℕ) → n ≡ 0 → (nought ≡ whole (pos n)) × IsNumber nought n
 unfolding ofInt ofBits
@@ -88,7 +83,7 @@ module _ (n : ℕ) (some : n ≡ 0 → ⊥) (h : n ≤ duration-most) (digits : 
   pub digits-no-nan : T (not (nanBits binary32 bits))
   digits-no-nan =
       let d = zeros-moved n some h in
-      rw is (bits-no-nan (n * 2 ^ (leadingZeros 32 n - 8)) (157 - leadingZeros 32 n) (d .leading) (d .few) (omega arith))
+      rw is (bits-no-nan ((157 - leadingZeros 32 n) * 0x80_0000 + n * 2 ^ (leadingZeros 32 n - 8)) (omega arith))
 
   -- and they are this very number's.
   pub digits-whole : (ofBits binary32 bits ≡ whole (pos n)) × IsNumber (ofBits binary32 bits) n

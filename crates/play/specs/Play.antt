@@ -67,11 +67,15 @@ driveAt cal case duration elapsed = cond (leZ duration elapsed) nought (driveOf 
 
 -- ---- what is refused, and what is not
 
--- The duration of a legal command: so many ms.
-pub record Timed (duration : ℤ) : Type 0 where
+-- A time of so many ms, up to a limit.
+pub record Lasts (limit : ℕ) (time : ℤ) : Type 0 where
   pub ms : ℕ
-  pub is : duration ≡ pos ms
-  pub most : ms ≤ duration-most
+  pub is : time ≡ pos ms
+  pub most : ms ≤ limit
+
+-- So is the duration of a legal command.
+abbrev pub Timed : ℤ → Type 0
+Timed duration = Lasts duration-most duration
 
 -- Two gains, the floor not above the ceiling.
 unfoldable pub isCalibration : Calibration → Bool

@@ -45,6 +45,9 @@ half = 0x3f00_0000
 abbrev minus-nought : ℕ
 minus-nought = 0x8000_0000
 
+abbrev infinity : ℕ
+infinity = 0x7f80_0000
+
 abbrev not-a-number : ℕ
 not-a-number = 0x7fc0_0000
 
@@ -66,8 +69,8 @@ calibrated floor ceiling c elapsed answers = record { command = c; elapsed = ela
 
 -- "A ramp 0.0 to 1.0 of 1,000 ms has level 0.25 at 250." Then three ramps at which other ways to work it out come to other bits: with a fused
 -- multiply-add 3d6c7449, 3dc962ff, 3d522c4a; with the product before the quotient 3d6c7450, 3dc96300, 3d522c4c; by the reciprocal of the duration
--- 3d6c7450, 3dc962ff, 3d522c44; in double precision 3d6c744b, 3dc962ff, 3d522c4a. Then half of the least float, a tie, and a little more of it; and
--- the shortest buzz.
+-- 3d6c7450, 3dc962ff, 3d522c44; in double precision 3d6c744b, 3dc962ff, 3d522c4a. Then half of the least float, a tie, and a little more of it; the
+-- shortest buzz; and the last ms of the longest ramp downwards, in double precision 35dfb23b.
 abbrev levels : List Vector
 levels =
     at-full (ramp 0 full 1_000) 250 (pos 750) 0x3e80_0000
@@ -77,6 +80,7 @@ levels =
     ∷ at-full (ramp 0 1 600_000) 300_000 (pos 300_000) 0
     ∷ at-full (ramp 0 1 600_000) 300_001 (pos 299_999) 1
     ∷ at-full (buzz 1 half) 0 (pos 1) half
+    ∷ at-full (ramp full 0 600_000) 599_999 (pos 1) 0x35e0_0000
     ∷ []
 
 -- ---- the end
@@ -112,6 +116,7 @@ refusals =
     ∷ calibrated 0 full stop (negsuc 0) (refusedWith bad-elapsed)
     ∷ calibrated minus-nought full stop (pos 0) (refusedWith bad-calibration)
     ∷ calibrated 0 0x3f80_0001 stop (pos 0) (refusedWith bad-calibration)
+    ∷ calibrated 0 infinity stop (pos 0) (refusedWith bad-calibration)
     ∷ calibrated full half stop (pos 0) (refusedWith bad-calibration)
     ∷ calibrated 0 full stop (pos 2_147_483_648) (refusedWith bad-elapsed)
     ∷ []

@@ -8,42 +8,55 @@ use borrow.Author.Needs.{sfits-of, fits-under}
 use lib.Dec.{T, leb, ltb}
 use lib.IntN.{ℤ, pos, negsuc, natAbs, _-ℤ_}
 use lib.Signed.{mag, nonNeg}
-use mir.Syntax.{w32, w64}
+use mir.Syntax.{Width, w32, w64}
 use mir.Val.{Fits, SFits, toZ, ofZ}
 use mir.Facts.{toZ-ofZ, toZ-pos}
 use Rattle.kinds.proofs.BoolLaws.{and-second}
 use Rattle.command.specs.Command.{duration-most}
 use Rattle.command.proofs.Tests.{by-test}
-use Rattle.play.specs.Play.{timeLeft, elapsed-most, isElapsed, Timed}
+use Rattle.play.specs.Play.{timeLeft, elapsed-most, isElapsed, Lasts, Timed}
 
-most : (n : ℕ) → isElapsed (pos n) ≡ true → n ≤ elapsed-most
+-- An elapsed time in range, and a legal duration, are of so many ms.
+elapsed-ms : (n : ℤ) → isElapsed n ≡ true → Lasts elapsed-most n
 unfolding isElapsed
-most n h = leb-true n elapsed-most (and-second (leb 0 n) _ h)
+elapsed-ms (pos n) h = record { ms = n; is = refl; most = leb-true n elapsed-most (and-second (leb 0 n) _ h) }
+elapsed-ms (negsuc n) h = absurd (false≢true h)
 
--- ---- the ms of an elapsed time
+duration-ms : (n : ℤ) → Timed n → Lasts elapsed-most n
+duration-ms n t = record { ms = t .ms; is = t .is; most = omega (arith, t .most) }
 
-pub elapsed-kept : (n : ℤ) → SFits w64 n → isElapsed n ≡ true → T (nonNeg (toZ w64 (ofZ w64 n))) × Fits w32 (natAbs (toZ w64 (ofZ w64 n)))
-unfolding isElapsed
-elapsed-kept (pos n) fits h = rw (toZ-ofZ fits) (tt, fits-under w32 n 0x8000_0000 (omega (arith, most n h)) tt)
-elapsed-kept (negsuc n) fits h = absurd (false≢true h)
+-- ---- the ms of a time
 
-pub elapsed-is : (n : ℤ) → SFits w64 n → isElapsed n ≡ true → pos (natAbs (toZ w64 (ofZ w64 n))) ≡ n
-unfolding isElapsed
-elapsed-is (pos n) fits h = ap (λ z. pos (natAbs z)) (toZ-ofZ fits)
-elapsed-is (negsuc n) fits h = absurd (false≢true h)
+-- A number of ms, in any width, is kept by the cast to 32 bits.
+module _ (w : Width) (n : ℤ) (fits : SFits w n) (t : Lasts elapsed-most n) where
+  ms-kept : T (nonNeg (toZ w (ofZ w n))) × Fits w32 (natAbs (toZ w (ofZ w n)))
+  ms-kept = rw (toZ-ofZ fits, t .is) (tt, fits-under w32 (t .ms) 0x8000_0000 (omega (arith, t .most)) tt)
 
--- ---- the ms of a duration
+  ms-same : natAbs (toZ w (ofZ w n)) ≡ t .ms
+  ms-same = rw (toZ-ofZ fits, t .is)
 
--- It fits 32 bits.
-pub timed-fits : (n : ℤ) → Timed n → SFits w32 n
-timed-fits n t = subst (λ z. SFits w32 z) (sym (t .is)) (sfits-of (omega (arith, t .most)))
+  ms-is : pos (natAbs (toZ w (ofZ w n))) ≡ n
+  ms-is = ap pos ms-same ∙ sym (t .is)
 
+-- An elapsed time.
+module _ (n : ℤ) (fits : SFits w64 n) (h : isElapsed n ≡ true) where
+  pub elapsed-kept : T (nonNeg (toZ w64 (ofZ w64 n))) × Fits w32 (natAbs (toZ w64 (ofZ w64 n)))
+  elapsed-kept = ms-kept w64 n fits (elapsed-ms n h)
+
+  pub elapsed-is : pos (natAbs (toZ w64 (ofZ w64 n))) ≡ n
+  elapsed-is = ms-is w64 n fits (elapsed-ms n h)
+
+-- A legal command's duration.
 module _ (n : ℤ) (fits : SFits w32 n) (t : Timed n) where
   pub duration-kept : T (nonNeg (toZ w32 (ofZ w32 n))) × Fits w32 (natAbs (toZ w32 (ofZ w32 n)))
-  duration-kept = rw (toZ-ofZ fits, t .is) (tt, fits-under w32 (t .ms) 0x8000_0000 (omega (arith, t .most)) tt)
+  duration-kept = ms-kept w32 n fits (duration-ms n t)
 
   pub duration-is : (pos (natAbs (toZ w32 (ofZ w32 n))) ≡ n) × (natAbs (toZ w32 (ofZ w32 n)) ≤ duration-most)
-  duration-is = rw (toZ-ofZ fits, t .is) (refl, t .most)
+  unfolding duration-ms
+  duration-is = (ms-is w32 n fits (duration-ms n t), omega (arith, ms-same w32 n fits (duration-ms n t), t .most))
+
+pub timed-fits : (n : ℤ) → Timed n → SFits w32 n
+timed-fits n t = subst (λ z. SFits w32 z) (sym (t .is)) (sfits-of (omega (arith, t .most)))
 
 -- ---- the time left
 
