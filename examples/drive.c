@@ -10,18 +10,20 @@
 #include <stdbool.h>
 #include <stdio.h>
 #include <stdlib.h>
+#include <string.h>
 
 #define PARTS 8u
 
-/* The 16 bytes of 32 hex digits. Whether they are. */
+/* The 16 bytes of hex digits. Whether they are 32. */
 static bool read_bytes(const char *digits, uint8_t command[KRITNAMON_COMMAND_SIZE])
 {
+    if (strlen(digits) != 2 * KRITNAMON_COMMAND_SIZE) {
+        return false;
+    }
     for (size_t index = 0; index < KRITNAMON_COMMAND_SIZE; index++) {
         unsigned byte;
 
-        if (sscanf(digits + 2 * index, "%2x", &byte) != 1) {
-            return false;
-        }
+        sscanf(digits + 2 * index, "%2x", &byte);
         command[index] = (uint8_t)byte;
     }
     return true;
