@@ -1,4 +1,6 @@
 // An append is taken, and its sender told: its end if it fitted, the own length if not.
+#![tactic(auto)]
+
 ghost use Rattle.message.specs.Walk.{entries_from};
 ghost use Rattle.state.specs.Image.{state_in};
 ghost use Rattle.rules.specs.Receive.{heard_append};

@@ -1,4 +1,6 @@
 // Messages read and written alone, as rule R35 has it, from the code's own fields and from eight numbers. What is to be written is tested first.
+#![tactic(auto)]
+
 ghost use Rattle.alone.specs.Written.{written_by, WritesText};
 ghost use Rattle.alone.specs.Told.{Tells, numbers_told};
 ghost use Rattle.alone.specs.Left.{IsLeft, writes};
@@ -7,7 +9,7 @@ use message::Fields;
 use reader::Read;
 
 // What writing a message alone answers: how many bytes its text has; or outcome 3; or outcome 4.
-#[derive(Drop)]
+#[derive(Clone, Copy)]
 pub enum Write {
     Message { bytes: usize },
     Short,

@@ -1,1 +1,2 @@
 // Worked examples of the step: no code of its own.
+#![tactic(auto)]

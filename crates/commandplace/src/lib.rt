@@ -1,5 +1,7 @@
 // The place of the first wrong byte of a command's hex digits and of the end of its line (rule R46), each number in the range that its kind fixes. The
 // reader of entries calls this, once they are none.
+#![tactic(auto)]
+
 ghost use Rattle.std.specs.Prelude.{◌≡◌, cond, ℕ, ◌≤◌, length, drop};
 ghost use Rattle.begins.specs.Digits.{fits, seek_fixed};
 ghost use Rattle.begins.specs.Commands.{digit_of};

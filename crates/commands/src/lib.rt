@@ -1,4 +1,6 @@
 // A command alone, read from its 16 bytes and written into them: as a motion, and as the five numbers that C is given.
+#![tactic(auto)]
+
 ghost use Rattle.std.specs.Prelude.{◌≡◌, true, false, ◌≤◌, pos, length};
 ghost use Rattle.std.specs.Int.Signed.{lt_z};
 ghost use Rattle.std.proofs.lemmas.List.Edits.{sets};

@@ -1,4 +1,6 @@
 // append-yes at a leader: a confirmed length is recorded, and chosen follows a majority of them.
+#![tactic(auto)]
+
 ghost use Rattle.std.specs.Prelude.{◌≡◌, ◌-◌, ◌≤◌, max, set};
 ghost use Rattle.kinds.specs.Of.{place};
 ghost use Rattle.kinds.specs.Sizes.{hubs_most};

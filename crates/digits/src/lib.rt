@@ -1,5 +1,7 @@
 // Hex digits read eight at a time from a lent slice, as numbers in which each digit is a byte: whether 32 of them are a legal command's, which makes no
 // number of them; and the words of a command whose digits are known to stand there. Who reads entries calls these.
+#![tactic(auto)]
+
 ghost use Rattle.std.specs.Prelude.{◌≡◌, cond, ◌+◌, ◌≤◌, length, drop};
 ghost use Rattle.text.specs.Reader.{lost};
 ghost use Rattle.text.specs.Hex.{hex_bytes};

@@ -1,5 +1,7 @@
 // The level of a motion and the drive of a motor (rule R47), in floats: each operation stands as the definition has it, and is rounded once. `player` calls
 // this with times that it has tested.
+#![tactic(auto)]
+
 ghost use Rattle.std.specs.Prelude.{◌≡◌, ◌-◌, ◌*◌, ◌^◌, ◌≤◌, ◌<◌, pos};
 ghost use Rattle.command.specs.Command.{duration_most};
 ghost use Rattle.play.specs.Play.{whole, IsNumber, between, held, level_of, drive_of, drive_at};

@@ -1,5 +1,7 @@
 // The entry lines of messages, read from a lent text, where they stay: as many as follow a message's fields are checked, and each of those can then be
 // taken by itself.
+#![tactic(auto)]
+
 ghost use Rattle.std.specs.Prelude.{◌≡◌, ◌≤◌, length, drop};
 ghost use Rattle.kinds.specs.Sizes.{term_most};
 ghost use Rattle.text.specs.Reader.{lost};
@@ -18,7 +20,7 @@ use text::{Next, Number};
 const COLON: u8 = 58;
 
 // An entry, its command by its four words (motor and kind share the first), and the place past its line.
-#[derive(Drop)]
+#[derive(Clone, Copy)]
 pub enum EntryAt {
     Is {
         term: Term,

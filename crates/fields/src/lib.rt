@@ -1,5 +1,7 @@
 // The table of a message's fields: which follows which, the slot of each one's number, and what all numbers say. The range of each number is
 // the matter of `ranges`, and reading by both that of `lines`.
+#![tactic(auto)]
+
 ghost use Rattle.std.specs.Prelude.{◌≡◌, ◌<◌};
 ghost use Rattle.message.specs.Fields.{slot};
 ghost use Rattle.fields.specs.Table.{field_is, fields_many, first_own, field_after, body_at, fields_by};
@@ -31,7 +33,7 @@ pub const CHOSEN: usize = 5;
 const COUNT: usize = 6;
 
 // The six types of message.
-#[derive(Drop)]
+#[derive(Clone, Copy)]
 pub enum Kind {
     VoteRequest,
     VoteYes,
@@ -42,7 +44,7 @@ pub enum Kind {
 }
 
 // The fields of all types.
-#[derive(Drop)]
+#[derive(Clone, Copy)]
 pub enum Field {
     Term,
     From,

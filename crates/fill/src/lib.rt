@@ -1,4 +1,6 @@
 // The log's rows filled from entry lines: each entry goes from its line into its row, and is copied nowhere else.
+#![tactic(auto)]
+
 ghost use Rattle.std.specs.Prelude.{◌≡◌, ◌+◌, ◌*◌, ◌≤◌, length};
 ghost use Rattle.std.proofs.lemmas.List.Edits.{sets};
 ghost use Rattle.kinds.specs.Sizes.{row_size};

@@ -1,4 +1,6 @@
 // Whether an append fits a hub's log.
+#![tactic(auto)]
+
 ghost use Rattle.std.specs.Prelude.{◌≡◌, ◌≤◌, length};
 ghost use Rattle.kinds.specs.Of.{term};
 ghost use Rattle.state.specs.Image.{state_in};

@@ -1,4 +1,6 @@
 // A message that is for this hub and not stale: a higher term is taken first, then the message is refused or obeyed.
+#![tactic(auto)]
+
 ghost use Rattle.std.specs.Prelude.{◌≡◌};
 ghost use Rattle.state.specs.Image.{state_in};
 ghost use Rattle.rules.specs.Receive.{receive};
@@ -12,7 +14,7 @@ use promise::Caller;
 use state::Head;
 
 // What a message came to: its outcome, and how many bytes of message were written.
-#[derive(Drop)]
+#[derive(Clone, Copy)]
 pub struct Told {
     pub outcome: u32,
     pub bytes: usize,

@@ -1,4 +1,6 @@
 // The tests before every event: the numbers of the call, the state, the output.
+#![tactic(auto)]
+
 ghost use Rattle.std.specs.Prelude.{◌≡◌};
 ghost use Rattle.promise.specs.Promise.{who_in};
 ghost use Rattle.promise.specs.Gate.{is_known, is_fit, gate};

@@ -1,4 +1,6 @@
 // vote-yes at a candidate: its entries are gathered into the rows behind the log, and its vote is counted.
+#![tactic(auto)]
+
 ghost use Rattle.std.specs.Prelude.{◌≡◌, ◌≤◌, max};
 ghost use Rattle.kinds.specs.Sizes.{hubs_most};
 ghost use Rattle.message.specs.Walk.{entries_from};

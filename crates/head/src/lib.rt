@@ -1,4 +1,6 @@
 // The head of a state read from lent bytes and written into them, and where the rows of the table stand behind it.
+#![tactic(auto)]
+
 ghost use Rattle.std.specs.Prelude.{◌≡◌, cond, map, ◌++◌, ◌+◌, ◌*◌, ◌≤◌, eqb, length, drop};
 ghost use Rattle.std.proofs.lemmas.List.Edits.{sets};
 ghost use Rattle.kinds.specs.Of.{place, term};

@@ -1,4 +1,6 @@
 // The lines with which every message begins, written into a lent buffer: type, term, from and to; and two lines one behind the other.
+#![tactic(auto)]
+
 ghost use Rattle.std.specs.Prelude.{◌+◌, ◌≤◌, length};
 ghost use Rattle.text.specs.Wrote.{Wrote};
 ghost use Rattle.heading.specs.Heading.{two_lines, type_text, head_text};

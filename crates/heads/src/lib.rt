@@ -1,5 +1,7 @@
 // How a hub's head turns: into a follower's, a candidate's, a leader's, or that of a follower that took an append. The log and the gathered entries stay in
 // the lent bytes.
+#![tactic(auto)]
+
 ghost use Rattle.std.specs.Prelude.{◌≡◌, ◌+◌, ◌≤◌, ◌<◌, max};
 ghost use Rattle.kinds.specs.Of.{place};
 ghost use Rattle.kinds.specs.Sizes.{hubs_most, term_most, limit};

@@ -1,4 +1,6 @@
 // A field's key, read from a lent text, or the place of its first wrong byte (rules R30, R46).
+#![tactic(auto)]
+
 ghost use Rattle.std.specs.Prelude.{◌≤◌, length, drop};
 ghost use Rattle.text.specs.Reader.{literal};
 ghost use Rattle.message.specs.Text.{key};

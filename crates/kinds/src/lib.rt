@@ -1,17 +1,19 @@
 // Hub numbers, places and terms (a ballot is a term). Their numbers are private, so that another crate
 // compares them by these methods alone, and a place with a term not at all. And the numbers that all crates share.
+#![tactic(auto)]
+
 ghost use Rattle.std.specs.Prelude.{◌≡◌, ◌<◌, leb, ltb, eqb};
 ghost use Rattle.kinds.specs.Of.{hub, place, term};
 ghost use Rattle.kinds.specs.Packed.{half, places_room, placed, packed};
 ghost use Rattle.kinds.specs.Sizes.{limit, text_room};
 
-#[derive(Drop)]
+#[derive(Clone, Copy)]
 pub struct Hub(u32);
 
-#[derive(Drop)]
+#[derive(Clone, Copy)]
 pub struct Place(u32);
 
-#[derive(Drop)]
+#[derive(Clone, Copy)]
 pub struct Term(u32);
 
 impl Hub {
@@ -92,6 +94,7 @@ pub const TERM_MOST: u32 = 4_294_967_295;
 pub const ROW: usize = 20;
 
 // The most places of a log.
+#[tactic(auto, unfolding(crate::specs::Sizes::limit))]
 pub fn places() -> u32
     ensures { result ≡ limit }
 {
@@ -99,6 +102,7 @@ pub fn places() -> u32
 }
 
 // The most bytes of a message's text, and the least of an output.
+#[tactic(auto, unfolding(crate::specs::Sizes::text_room))]
 pub fn text_room() -> usize
     ensures { result ≡ text_room }
 {

@@ -1,4 +1,6 @@
 // What the hub firmware calls, with numbers and byte slices only. Each function here is one of the crates below under its name for C.
+#![tactic(auto)]
+
 ghost use Rattle.std.specs.Prelude.{◌≡◌};
 ghost use Rattle.command.specs.Answers.{IsResult, command_written, numbers_read, command_with};
 ghost use Rattle.kinds.specs.Sizes.{limit, text_room};

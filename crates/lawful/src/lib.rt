@@ -1,5 +1,7 @@
 // Whether a command is legal (rules R7 to R9): by its five numbers, at a place of a lent slice, and as a slice of its own; and whether it may be
 // proposed (rule R43). Who reads rows or a proposal asks here; the digits of an entry line are tested by `digits`.
+#![tactic(auto)]
+
 ghost use Rattle.std.specs.Prelude.{◌≡◌, ◌+◌, ◌≤◌, length};
 ghost use Rattle.command.specs.Words.{part};
 ghost use Rattle.command.specs.Command.{legal_command, command_size, command_of};

@@ -1,5 +1,7 @@
 // Whether bytes are the image of a legal state, or hold legal kept parts (rules R14 to R16): the head's tests, those of the rows, and that what is not
 // used is zero. The gate before every event asks this, and what reports.
+#![tactic(auto)]
+
 ghost use Rattle.std.specs.Prelude.{◌≡◌, true, false, ◌+◌, ◌-◌, ◌*◌, ◌≤◌, length, drop};
 ghost use Rattle.kinds.specs.Sizes.{limit, row_size};
 ghost use Rattle.command.specs.Words.{part};

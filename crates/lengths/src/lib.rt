@@ -1,4 +1,6 @@
 // The lengths that a leader knows to be confirmed, a place for each of the seven hubs: whose is which, and whether a leader may have them.
+#![tactic(auto)]
+
 ghost use Rattle.std.specs.Prelude.{◌≡◌, ◌-◌, leb, drop, get_or};
 ghost use Rattle.kinds.specs.Of.{place};
 ghost use Rattle.kinds.specs.Hubs.{all};

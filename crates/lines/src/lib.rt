@@ -1,4 +1,6 @@
 // The lines of a message before its entries, read from a lent text: one loop reads those of every type, by the table of fields.
+#![tactic(auto)]
+
 ghost use Rattle.std.specs.Prelude.{◌≤◌, length, drop};
 ghost use Rattle.message.specs.Text.{key, type_among, types};
 ghost use Rattle.message.specs.Opening.{type_line};
@@ -15,7 +17,7 @@ use seek::{NumberAt, TextAt};
 use text::{Next, Number};
 
 // A type, and the place past its line.
-#[derive(Drop)]
+#[derive(Clone, Copy)]
 pub enum KindAt {
     Is { kind: Kind, next: usize },
     Bad,
@@ -23,7 +25,7 @@ pub enum KindAt {
 
 // Whether the lines of a type's fields are all there: then their numbers, each in the slot of its field, and the place past them; else the place of the
 // first wrong byte.
-#[derive(Drop)]
+#[derive(Clone, Copy)]
 struct Lines {
     all: bool,
     numbers: [u32; 7],
@@ -31,7 +33,7 @@ struct Lines {
 }
 
 // The fields, and the place past their lines; or that of the first wrong byte.
-#[derive(Drop)]
+#[derive(Clone, Copy)]
 pub enum FieldsAt {
     Are { fields: Fields, next: usize },
     Wrong { place: usize },

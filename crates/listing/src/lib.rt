@@ -1,4 +1,6 @@
 // Entry lines written into a lent buffer from rows of 20 bytes, as a state's table has them.
+#![tactic(auto)]
+
 ghost use Rattle.std.specs.Prelude.{[], ◌∷◌, ◌++◌, ◌+◌, ◌*◌, ◌≤◌, length, drop};
 ghost use Rattle.kinds.specs.Sizes.{row_size};
 ghost use Rattle.message.specs.Text.{entry=, entry_text, entries_text};
@@ -23,7 +25,7 @@ fn write_digits(out: &mut [u8], at: usize, bytes: &[u8]) -> usize
     requires { at + length (hex bytes.now ++ LF) ≤ length out.old }
     ensures { Wrote out.old at (hex bytes.now ++ LF) result out.new }
 {
-    let p = hex::write_hex(out, at, bytes);
+    let p = in_hex::write_hex(out, at, bytes);
     print::put(out, p, b"\n")
 }
 

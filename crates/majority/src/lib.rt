@@ -1,4 +1,6 @@
 // The largest place that a majority of the hubs has confirmed: what a leader may call chosen.
+#![tactic(auto)]
+
 ghost use Rattle.std.specs.Prelude.{◌≡◌, ◌≤◌};
 ghost use Rattle.kinds.specs.Of.{place};
 ghost use Rattle.kinds.specs.Sizes.{hubs_most};

@@ -1,4 +1,6 @@
 // The motion of a legal command's numbers, and the numbers of a motion: the case that the firmware plays, its gains by their bits.
+#![tactic(auto)]
+
 ghost use Rattle.std.specs.Prelude.{◌≡◌, true, ◌≤◌};
 ghost use Rattle.std.specs.Float.{binary32};
 ghost use Rattle.std.specs.Float.Ieee.{to_bits, of_bits};

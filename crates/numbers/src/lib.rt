@@ -1,4 +1,6 @@
 // A message's eight numbers, as C has them: the number of its type, then the numbers of its fields, each in its slot.
+#![tactic(auto)]
+
 ghost use Rattle.std.specs.Prelude.{◌≡◌, ◌≤◌, length};
 ghost use Rattle.std.proofs.lemmas.List.Edits.{sets};
 ghost use Rattle.kinds.specs.Same.{same};

@@ -1,4 +1,6 @@
 // The rule for each type of message: what a hub does with one of its term that does not contradict.
+#![tactic(auto)]
+
 ghost use Rattle.std.specs.Prelude.{◌≡◌, cond};
 ghost use Rattle.state.specs.Image.{state_in};
 ghost use Rattle.rules.specs.Receive.{rule};
@@ -10,7 +12,7 @@ use message::{Body, Fields};
 use promise::Caller;
 
 // What a rule did: nothing at all, or it made a next state and wrote so many bytes of message.
-#[derive(Drop)]
+#[derive(Clone, Copy)]
 pub enum Did {
     Nothing,
     Wrote { bytes: usize },

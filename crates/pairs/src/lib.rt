@@ -1,5 +1,7 @@
 // The gathered pairs: the entries of a vote-yes go from their lines into the rows behind the log, and at each place the pair with the greater ballot stays.
 // No entry is copied but into its row.
+#![tactic(auto)]
+
 ghost use Rattle.std.specs.Prelude.{◌≡◌, ◌+◌, ◌*◌, ◌≤◌, length};
 ghost use Rattle.kinds.specs.Sizes.{row_size};
 ghost use Rattle.message.specs.Walk.{entries_from, Lie};

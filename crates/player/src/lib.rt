@@ -1,5 +1,7 @@
 // A command played (rule R47): what is refused is told by its outcome, and for all else the time left and the drive; as an enum, and as the numbers that
 // C is given.
+#![tactic(auto)]
+
 ghost use Rattle.std.specs.Prelude.{◌≡◌, ◌≤◌, pos};
 ghost use Rattle.command.specs.Command.{duration_most};
 ghost use Rattle.play.specs.Play.{time_left, Timed, is_calibration, is_elapsed};

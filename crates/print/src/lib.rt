@@ -1,5 +1,7 @@
 // Bytes, decimal numbers and `key=` lines as rule R27 has them, written into a lent slice. Each writer answers the place past what it wrote.
 // The writers of messages and of entries call these.
+#![tactic(auto)]
+
 ghost use Rattle.std.specs.Prelude.{◌≡◌, ◌+◌, ◌≤◌, length};
 ghost use Rattle.text.specs.Decimal.{decimal};
 ghost use Rattle.text.specs.Line.{line_text};

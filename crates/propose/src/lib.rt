@@ -1,4 +1,6 @@
 // Propose: a command joins a leader's log.
+#![tactic(auto)]
+
 ghost use Rattle.std.specs.Prelude.{◌≡◌, ◌≤◌, ◌<◌, length};
 ghost use Rattle.kinds.specs.Sizes.{hubs_most, limit};
 ghost use Rattle.command.specs.Proposal.{read_proposal};

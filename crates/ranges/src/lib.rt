@@ -1,4 +1,6 @@
 // The range of each field of a message, given the numbers before it (rule R30).
+#![tactic(auto)]
+
 ghost use Rattle.std.specs.Prelude.{◌≡◌, cond, ◌-◌, eqb};
 ghost use Rattle.kinds.specs.Sizes.{limit};
 ghost use Rattle.message.specs.Range.{is_vote_request, is_append, range};
@@ -8,7 +10,7 @@ ghost use Rattle.ranges.specs.Bounds.{range_is};
 use fields::{Field, Kind};
 
 // lo..hi, both ends included.
-#[derive(Drop)]
+#[derive(Clone, Copy)]
 pub struct Bounds {
     pub lo: u32,
     pub hi: u32,

@@ -1,1 +1,2 @@
 // It does get there: definitions and theorems, no code.
+#![tactic(auto)]

@@ -1,4 +1,6 @@
 // Reading messages from a lent text, where their entries stay, as rules R27 to R31 have it; of a text that is none, where it is wrong (rule R46).
+#![tactic(auto)]
+
 ghost use Rattle.std.specs.Prelude.{◌≤◌, length, ◌≡◌};
 ghost use Rattle.message.specs.Text.{read, part_from, part_to};
 ghost use Rattle.reader.specs.Answer.{ended_at, entered_at, Opened, Reads};
@@ -9,7 +11,7 @@ use message::Fields;
 use seek::TextAt;
 
 // What reading a message finds: its fields, and where its entry lines begin. Refused is outcome 4, with the place of the first wrong byte.
-#[derive(Drop)]
+#[derive(Clone, Copy)]
 pub enum Read {
     Message { fields: Fields, entries: usize },
     Refused { place: usize },

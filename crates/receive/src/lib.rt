@@ -1,5 +1,7 @@
 // The event receive: a text is read, its message refused in the order of rule R32 or obeyed, and a higher term taken first. Its entries stay
 // where they lie in the lent text.
+#![tactic(auto)]
+
 ghost use Rattle.std.specs.Prelude.{List, ℕ, ◌≤◌, length};
 ghost use Rattle.kinds.specs.Sizes.{text_room};
 ghost use Rattle.message.specs.Text.{read};

@@ -1,4 +1,6 @@
 // Which messages are refused, in the order of rule R32: those that are not for this hub, stale ones, and those that contradict.
+#![tactic(auto)]
+
 ghost use Rattle.std.specs.Prelude.{◌≡◌, List, ℕ};
 ghost use Rattle.state.specs.State.{State};
 ghost use Rattle.state.specs.Head.{head_of};

@@ -1,4 +1,6 @@
 // append at a hub of its term that does not lead: a follower that takes the message's entries if they fit.
+#![tactic(auto)]
+
 ghost use Rattle.std.specs.Prelude.{◌≡◌, ◌+◌};
 ghost use Rattle.message.specs.Walk.{entries_from};
 ghost use Rattle.state.specs.Image.{image, state_in};

@@ -1,4 +1,6 @@
 // What a hub reports: the commands at places 1 to chosen of its log, and no others. The kept parts of its state alone are looked at.
+#![tactic(auto)]
+
 ghost use Rattle.std.specs.Prelude.{◌≡◌};
 ghost use Rattle.rules.specs.Report.{IsReport, report_of, chosen_of};
 

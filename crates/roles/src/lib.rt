@@ -1,4 +1,6 @@
 // Whether a head is that of a legal state (rules R14 and R15): its numbers, and what each role asks of it.
+#![tactic(auto)]
+
 ghost use Rattle.std.specs.Prelude.{◌≡◌, ◌≤◌, length};
 ghost use Rattle.state.specs.Image.{head_size};
 ghost use Rattle.state.specs.Head.{head_in, kept_head, follower_head, candidate_head, leader_head, role_head};

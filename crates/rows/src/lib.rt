@@ -1,4 +1,6 @@
 // Rows of 20 bytes, in a state's table or lent beside a message that is to be written: their commands by words, and whether rows are legal.
+#![tactic(auto)]
+
 ghost use Rattle.std.specs.Prelude.{◌≡◌, cond, ◌+◌, ◌*◌, ◌≤◌, length, drop};
 ghost use Rattle.std.proofs.lemmas.List.Edits.{sets};
 ghost use Rattle.kinds.specs.Sizes.{row_size};
@@ -9,7 +11,7 @@ ghost use Rattle.rows.specs.Words.{words_at, words_bytes, row_words, renumbered}
 use kinds::Term;
 
 // A command by its four words, as they stand in its bytes; motor and kind share the first.
-#[derive(Drop)]
+#[derive(Clone, Copy)]
 pub struct Words {
     pub what: u32,
     pub duration: u32,

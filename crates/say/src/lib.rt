@@ -1,4 +1,6 @@
 // What a hub says: any message of its own, from its state's bytes into the lent output, and its answers to other hubs.
+#![tactic(auto)]
+
 ghost use Rattle.std.specs.Prelude.{◌≡◌, true, ◌-◌, ◌≤◌};
 ghost use Rattle.kinds.specs.Sizes.{limit};
 ghost use Rattle.message.specs.Message.{vote_request, vote_no, append_yes, append_no};

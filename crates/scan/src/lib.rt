@@ -1,5 +1,7 @@
 // Keys and decimal numbers as rule R27 has them, read from a lent slice. A reader is told the place to read at, and answers a value with the
 // place past it. The readers of lines and of entries call these.
+#![tactic(auto)]
+
 ghost use Rattle.std.specs.Prelude.{◌≡◌, ◌+◌, ◌-◌, ◌<◌, ◌≤◌, length, drop};
 ghost use Rattle.text.specs.Decimal.{more_digits, number};
 ghost use Rattle.text.specs.Range.{within, number_in};

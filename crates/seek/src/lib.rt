@@ -1,5 +1,7 @@
 // The first wrong byte within literals and numbers (rule R46), looked for after a refusal. A reader here is told the place to read at, and answers the place
 // past what it read, or that of the byte that is wrong: the end of the text, if it ends too soon. A digit is wrong if no number of the range begins so.
+#![tactic(auto)]
+
 ghost use Rattle.std.specs.Prelude.{◌≡◌, ◌<◌, ◌≤◌, length, drop};
 ghost use Rattle.begins.specs.Seek.{seek_literal};
 ghost use Rattle.begins.specs.Digits.{grows, seek_end, seek_more, seek_number};
@@ -9,14 +11,14 @@ ghost use Rattle.seek.specs.Spotted.{SpottedText, SpottedNumber, Ends, ended_at}
 pub const NINE: u8 = 57;
 
 // The place past a text; or that of the first wrong byte.
-#[derive(Drop)]
+#[derive(Clone, Copy)]
 pub enum TextAt {
     Is { next: usize },
     Wrong { place: usize },
 }
 
 // A number, and the place past its text; or that of the first wrong byte.
-#[derive(Drop)]
+#[derive(Clone, Copy)]
 pub enum NumberAt {
     Is { value: u32, next: usize },
     Wrong { place: usize },

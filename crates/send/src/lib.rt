@@ -1,4 +1,6 @@
 // The event send: a leader sends a peer its log from a place on.
+#![tactic(auto)]
+
 ghost use Rattle.std.specs.Prelude.{◌≡◌, not, ◌||◌, ◌≤◌, eqb, ltb, length};
 ghost use Rattle.kinds.specs.Of.{term};
 ghost use Rattle.kinds.specs.Sizes.{is_hub, text_room};

@@ -1,1 +1,2 @@
 // A run that gets there, worked out: tables, no code.
+#![tactic(auto)]

@@ -1,4 +1,6 @@
 // How many entries follow a message's fields, and the range of their terms.
+#![tactic(auto)]
+
 ghost use Rattle.std.specs.Prelude.{◌≡◌, max};
 ghost use Rattle.message.specs.Answer.{opening_of};
 ghost use Rattle.span.specs.Span.{span_of};
@@ -6,7 +8,7 @@ ghost use Rattle.span.specs.Span.{span_of};
 use message::{Body, Fields};
 
 // How many entries follow, and the range of their terms.
-#[derive(Drop)]
+#[derive(Clone, Copy)]
 pub struct Span {
     pub count: u32,
     pub low: u32,

@@ -1,4 +1,6 @@
 // The event start: a hub stands for the next term and asks all hubs for their votes.
+#![tactic(auto)]
+
 ghost use Rattle.std.specs.Prelude.{◌≤◌, length};
 ghost use Rattle.kinds.specs.Sizes.{text_room};
 ghost use Rattle.state.specs.Image.{state_in};

@@ -1,6 +1,8 @@
 // A hub's state in lent bytes: its size, its head as a struct by value, and where a hub stands in the head's lists. What reads and writes the head is
 // the crate `head`, what tests bytes the crate `legal`.
 // The layout is docs/LAYOUT.md's: a head of 56 bytes, then a row of 20 bytes for each place of the limit.
+#![tactic(auto)]
+
 ghost use Rattle.std.specs.Prelude.{◌≡◌, ◌-◌};
 ghost use Rattle.state.specs.Image.{state_size};
 
@@ -10,7 +12,7 @@ use kinds::{Hub, Place, Term};
 pub const HEAD: usize = 56;
 
 // The head of a state. Log and gathered rows stay in the lent bytes.
-#[derive(Drop)]
+#[derive(Clone, Copy)]
 pub struct Head {
     pub term: Term,
     pub ballot: Term,

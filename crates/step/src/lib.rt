@@ -1,4 +1,6 @@
 // The whole step of a hub: the tests before every event, then the event. Whatever comes in, it answers.
+#![tactic(auto)]
+
 ghost use Rattle.rules.specs.Step.{step_of};
 ghost use Rattle.promise.specs.Promise.{Answers, call};
 

@@ -1,4 +1,6 @@
 // Whether the message of fields and rows is legal (rule R30).
+#![tactic(auto)]
+
 ghost use Rattle.std.specs.Prelude.{◌≡◌, ◌*◌, ◌≤◌, leb, length};
 ghost use Rattle.kinds.specs.Sizes.{between, hubs_most, limit, row_size};
 ghost use Rattle.command.specs.Entry.{legal_entries};

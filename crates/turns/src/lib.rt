@@ -1,4 +1,6 @@
 // How a hub's bytes turn into a follower's or a candidate's, and what a restart leaves of them: what is lost is cleared, then the head is written.
+#![tactic(auto)]
+
 ghost use Rattle.std.specs.Prelude.{◌≡◌, true, ◌+◌, ◌-◌, ◌*◌, ◌≤◌, length, replicate};
 ghost use Rattle.std.proofs.lemmas.List.Edits.{sets};
 ghost use Rattle.kinds.specs.Sizes.{limit, row_size};

@@ -1,4 +1,6 @@
 // The place of the first wrong byte of a line `type` that is none (rule R46). The reader of lines calls this, once that line is refused.
+#![tactic(auto)]
+
 ghost use Rattle.std.specs.Prelude.{◌≡◌, ◌≤◌, max, length, drop};
 ghost use Rattle.text.specs.Reader.{lost};
 ghost use Rattle.message.specs.Text.{type_among, types};

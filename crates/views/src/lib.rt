@@ -1,1 +1,2 @@
 // What hubs of any engine do, seen from MultiPaxos: definitions and theorems, no code.
+#![tactic(auto)]

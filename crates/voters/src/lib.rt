@@ -1,4 +1,6 @@
 // The voters that a candidate has seen, a flag for each of the seven hubs: who is among them, how many they are, and whether a candidate may have them.
+#![tactic(auto)]
+
 ghost use Rattle.std.specs.Prelude.{◌≡◌, false, not, ◌+◌, ◌-◌, ◌≤◌, length, drop, get_or};
 ghost use Rattle.kinds.specs.Hubs.{all, count};
 ghost use Rattle.kinds.specs.Sizes.{hubs_most};

@@ -1,4 +1,6 @@
 // Numbers as bytes, big-endian, in a lent slice: how commands, rows and states hold them.
+#![tactic(auto)]
+
 ghost use Rattle.std.specs.Prelude.{◌≡◌, ◌+◌, ◌*◌, ◌≤◌, length};
 ghost use Rattle.std.proofs.lemmas.List.Edits.{sets};
 ghost use Rattle.command.specs.Words.{word, word_at};

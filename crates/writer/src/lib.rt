@@ -1,4 +1,6 @@
 // Legal messages written into a lent buffer, as rules R27 and R28 have their text: from their fields, and from rows of 20 bytes for their entries.
+#![tactic(auto)]
+
 ghost use Rattle.std.specs.Prelude.{◌+◌, ◌≤◌, length};
 ghost use Rattle.text.specs.Wrote.{Wrote};
 ghost use Rattle.message.specs.Text.{text};
