@@ -4,12 +4,13 @@
 -- proposed per ballot and place (`unique`). `binds` is the reason for agreement: from the ballot at which a command was chosen on,
 -- nothing else is proposed for that place.
 use mathlib.Core.Path.{◌≡◌, sym}
+use mathlib.Core.List.{◌∷◌}
 use mathlib.Core.Bool.{Bool, true}
 use Prim.Native.Nat.{ℕ, ◌≤◌}
 use native.Mathlib.Omega.{arith}
 use native.Mathlib.Decide.{dec_le}
 use Rattle.paxos.specs.Quorum.{Majority}
-use Rattle.paxos.specs.Paxos.{Machine, Wanted, client's, machine's, proposed, voted, History, ◌∈◌, here, there, ◌⊆◌, highest, any, can_propose, Steps, then_step, Run, ChosenAt, Chosen}
+use Rattle.paxos.specs.Paxos.{Machine, Happening, Wanted, client's, machine's, proposed, voted, History, ◌∈◌, here, there, ◌⊆◌, highest, any, Can, can_propose, Steps, no_step, then_step, Run, ChosenAt, Chosen}
 pub use Rattle.paxos.proofs.QuorumLaws.{Shared, share}
 pub use Rattle.paxos.proofs.Safe.{unique}
 use Rattle.paxos.proofs.Steps.{steps_trans, steps_keep}
@@ -42,12 +43,20 @@ module _ {C : Type 0} {M : Machine C} where
   pub agree_later : {s t : History C} {p : ℕ} {c d : C} → Run M s → Steps M s t → Chosen M s p c → Chosen M t p d → c ≡ d
   agree_later r x a b = agree (steps_trans r x) (stays x a) b
 
+  -- One step more: what is proposed was wanted, if that is so of the older proposals.
+  wanted_step :
+      {s : History C} {b p : ℕ} {c : C} {e : Happening C}
+      → Run M s → Can M s e → ((k q : ℕ) (a : C) → proposed k q a ∈ s → Wanted M s a)
+      → proposed b p c ∈ (e ∷ s) → Wanted M (e ∷ s) c
+  wanted_step r k older (there m) = wanted_on (λ e x. there x) (older _ _ _ m)
+  wanted_step r (can_propose Q seen most rs (any none a) free) older here = wanted_on (λ e x. there x) a
+  wanted_step r (can_propose Q seen most rs (highest h k q e hi) free) older here =
+      wanted_on (λ e x. there x) (older _ _ _ (voted_proposed r (told r (rs h q) e)))
+
   -- What is proposed some client asked for, or it is the machine's own.
   pub proposed_wanted : {s : History C} {b p : ℕ} {c : C} → Run M s → proposed b p c ∈ s → Wanted M s c
-  proposed_wanted (then_step r k) (there m) = wanted_on (λ e x. there x) (proposed_wanted r m)
-  proposed_wanted (then_step r (can_propose Q seen most rs (any none a) free)) here = wanted_on (λ e x. there x) a
-  proposed_wanted (then_step r (can_propose Q seen most rs (highest h k q e hi) free)) here =
-      wanted_on (λ e x. there x) (proposed_wanted r (voted_proposed r (told r (rs h q) e)))
+  proposed_wanted no_step m = elim m [ ]
+  proposed_wanted (then_step r k) m = wanted_step r k (λ b p c. proposed_wanted {b = b} {p = p} {c = c} r) m
 
   -- What is chosen some client asked for, or it is the machine's own.
   pub valid : {s : History C} {p : ℕ} {c : C} → Run M s → Chosen M s p c → Wanted M s c
