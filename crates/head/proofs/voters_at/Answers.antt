@@ -1,0 +1,8 @@
+-- `head::voters_at` meets its contract: the seven bytes one by one. Assumes nothing.
+use Rattle.rows.proofs.PartLaws.{part_seven}
+use Rattle.head.proofs.voters_at.Goals as goal
+
+pub returns : goal.returns
+returns c =
+    let start = c in
+    rw (part_seven start.args.s.now start.args.at start.requires)

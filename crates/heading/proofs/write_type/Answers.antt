@@ -1,0 +1,71 @@
+-- `heading::write_type` meets its contract: each type has its line. Assumes nothing.
+use mathlib.Core.Path.{ap}
+use Rattle.heading.specs.Heading.{type_text}
+use Rattle.message.proofs.JoinLaws.{room_start, wrote_as}
+use Rattle.heading.proofs.write_type.Goals as goal
+
+-- A vote-request. There is room for its line, and it is written.
+pub put-requires : goal.put-requires
+unfolding type_text
+put-requires c =
+    let start = c in
+    room_start (ap type_text c.enum_told.given.1) start.args.out.now start.requires
+
+pub returns-in-VoteRequest : goal.returns-in-VoteRequest
+unfolding type_text
+returns-in-VoteRequest c = wrote_as (ap type_text c.enum_told.given.1) c.put.ensures
+
+-- A vote-yes. There is room for its line, and it is written.
+pub put-requires-in-VoteYes : goal.put-requires-in-VoteYes
+unfolding type_text
+put-requires-in-VoteYes c =
+    let start = c in
+    room_start (ap type_text c.enum_told-in-VoteYes-1.given.1) start.args.out.now start.requires
+
+pub returns-in-VoteYes : goal.returns-in-VoteYes
+unfolding type_text
+returns-in-VoteYes c = wrote_as (ap type_text c.enum_told-in-VoteYes-1.given.1) c.put-in-VoteYes.ensures
+
+-- A vote-no. There is room for its line, and it is written.
+pub put-requires-in-VoteNo : goal.put-requires-in-VoteNo
+unfolding type_text
+put-requires-in-VoteNo c =
+    let start = c in
+    room_start (ap type_text c.enum_told-in-VoteNo-1.given.1) start.args.out.now start.requires
+
+pub returns-in-VoteNo : goal.returns-in-VoteNo
+unfolding type_text
+returns-in-VoteNo c = wrote_as (ap type_text c.enum_told-in-VoteNo-1.given.1) c.put-in-VoteNo.ensures
+
+-- An append. There is room for its line, and it is written.
+pub put-requires-in-Append : goal.put-requires-in-Append
+unfolding type_text
+put-requires-in-Append c =
+    let start = c in
+    room_start (ap type_text c.enum_told-in-Append-1.given.1) start.args.out.now start.requires
+
+pub returns-in-Append : goal.returns-in-Append
+unfolding type_text
+returns-in-Append c = wrote_as (ap type_text c.enum_told-in-Append-1.given.1) c.put-in-Append.ensures
+
+-- An append-yes. There is room for its line, and it is written.
+pub put-requires-in-AppendYes : goal.put-requires-in-AppendYes
+unfolding type_text
+put-requires-in-AppendYes c =
+    let start = c in
+    room_start (ap type_text c.enum_told-in-AppendYes-1.given.1) start.args.out.now start.requires
+
+pub returns-in-AppendYes : goal.returns-in-AppendYes
+unfolding type_text
+returns-in-AppendYes c = wrote_as (ap type_text c.enum_told-in-AppendYes-1.given.1) c.put-in-AppendYes.ensures
+
+-- An append-no. There is room for its line, and it is written.
+pub put-requires-in-AppendNo : goal.put-requires-in-AppendNo
+unfolding type_text
+put-requires-in-AppendNo c =
+    let start = c in
+    room_start (ap type_text c.enum_told-in-AppendNo-1.given.1) start.args.out.now start.requires
+
+pub returns-in-AppendNo : goal.returns-in-AppendNo
+unfolding type_text
+returns-in-AppendNo c = wrote_as (ap type_text c.enum_told-in-AppendNo-1.given.1) c.put-in-AppendNo.ensures

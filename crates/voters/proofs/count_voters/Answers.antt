@@ -1,0 +1,28 @@
+-- `voters::count_voters` meets its contract. The loop's invariant: the voters counted and those from `i` on are all there are.
+-- The measure is what is left of the seven. Assumes nothing.
+use mathlib.Core.Path.{◌≡◌}
+use mathlib.Core.Bool.{true, false}
+use mathlib.Core.Logic.{⊎_elim}
+use native.Mathlib.Omega.{arith}
+use lib.ListN.{length}
+use borrow.Author.Rules.{rules}
+use Rattle.state.proofs.LegalLaws.{count_goes, count_ends}
+use Rattle.voters.proofs.count_voters.Goals as goal
+
+-- A voter is counted, another hub is passed.
+pub loop-i-preserved : goal.loop-i-preserved
+loop-i-preserved c =
+    let vs = c.args.t1 in
+    let i = c.loop-i.i in
+    let long : length vs ≡ 7 = search rules in
+    ⊎_elim
+    (λ w. omega (arith, count_goes vs i true (omega arith) w.0.taken))
+    (λ w. omega (arith, count_goes vs i false (omega arith) w.0.left))
+    c.if-vs-i.branch
+
+-- All are passed.
+pub returns : goal.returns
+returns c =
+    let vs = c.args.t1 in
+    let long : length vs ≡ 7 = search rules in
+    omega (arith, count_ends vs c.loop-i.i (omega arith))
