@@ -18,4 +18,4 @@ returns c =
     let start = known in
     told_eights start.args.s.now start.args.at start.requires (λ i. (known.shared_slice_known-1.given i).fits) _ _ _ _ _ _
     c.is_legal.ensures motor.get32-motor.ensures kind.get32-kind.ensures duration.get64-duration.ensures a.get64-a.ensures b.get64-b.ensures
-    what.join_halves-what.ensures d1.are_digits.ensures d2.are-digits2.ensures d3.are-digits3.ensures d4.are-digits4.ensures
+    what.join_halves-what.ensures d1.are_digits.ensures d2.are_digits-2.ensures d3.are_digits-3.ensures d4.are_digits-4.ensures

@@ -13,5 +13,5 @@ returns c =
     let x1 = w1 in
     let start = x1 in
     words_found start.args.s.now start.args.at (read_stand _ _ start.requires.1)
-    x1.get64.ensures w1.word_of.ensures x2.get64-2.ensures w2.word-of2.ensures
-    x3.get64-3.ensures w3.word-of3.ensures w4.get64-4.ensures c.word-of4.ensures
+    x1.get64.ensures w1.word_of.ensures x2.get64-2.ensures w2.word_of-2.ensures
+    x3.get64-3.ensures w3.word_of-3.ensures w4.get64-4.ensures c.word_of-4.ensures

@@ -13,7 +13,7 @@ returns-in-VoteRequest c =
     let at_second = at-third in
     let at_first = at_second in
     let args = at_first.args in
-    body_told c.enum_told.given.1 args.first args.second args.third args.count
+    body_told c.in-VoteRequest.is args.first args.second args.third args.count
     (ap₂ VoteRequest at_first.of-place.ensures at_second.of-term.ensures)
 
 pub returns-in-VoteYes : goal.returns-in-VoteYes
@@ -22,7 +22,7 @@ returns-in-VoteYes c =
     let at_second = at-third in
     let at_first = at_second in
     let args = at_first.args in
-    body_told c.enum_told-in-VoteYes-1.given.1 args.first args.second args.third args.count
+    body_told c.in-VoteYes.is args.first args.second args.third args.count
     (ap₂ (λ (l : Place) (b : Term). VoteYes l b args.count) at_first.of-place.ensures at_second.of-term.ensures)
 
 pub returns-in-Append : goal.returns-in-Append
@@ -31,7 +31,7 @@ returns-in-Append c =
     let at_second = at-third in
     let at_first = at_second in
     let args = at_first.args in
-    body_told c.enum_told-in-Append-1.given.1 args.first args.second args.third args.count
+    body_told c.in-Append.is args.first args.second args.third args.count
     (ap₂ (λ (l : Place) (b : Term). Append l b at-third.of-chosen.result args.count) at_first.of-place.ensures at_second.of-term.ensures
     ∙ ap (λ (o : Place). Append (place args.first) (term args.second) o args.count) at-third.of-chosen.ensures)
 
@@ -41,7 +41,7 @@ returns-in-AppendYes c =
     let at_second = at-third in
     let at_first = at_second in
     let args = at_first.args in
-    body_told c.enum_told-in-AppendYes-1.given.1 args.first args.second args.third args.count
+    body_told c.in-AppendYes.is args.first args.second args.third args.count
     (ap AppendYes at_first.of-place.ensures)
 
 pub returns-in-AppendNo : goal.returns-in-AppendNo
@@ -50,5 +50,5 @@ returns-in-AppendNo c =
     let at_second = at-third in
     let at_first = at_second in
     let args = at_first.args in
-    body_told c.enum_told-in-AppendNo-1.given.1 args.first args.second args.third args.count
+    body_told c.in-AppendNo.is args.first args.second args.third args.count
     (ap AppendNo at_first.of-place.ensures)

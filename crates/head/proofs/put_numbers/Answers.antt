@@ -11,7 +11,7 @@ returns c =
     let start = at_term in
     numbers_written start.args.h start.args.s.now
     at_term.put_term.ensures
-    at_ballot.put-term2.ensures
+    at_ballot.put_term-2.ensures
     at-chosen.put_place.ensures
-    at_length.put-place2.ensures
-    c.put-place3.ensures
+    at_length.put_place-2.ensures
+    c.put_place-3.ensures

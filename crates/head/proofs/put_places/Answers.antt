@@ -25,7 +25,7 @@ pub loop-i-preserved : goal.loop-i-preserved
 loop-i-preserved c =
     let start = c in
     let at-loop = c.loop-i in
-    let ps = start.args.t3 in
+    let ps = start.args.ps in
     let at = start.args.at in
     let i = at-loop.i in
     let long : length ps ≡ 7 = search rules in (
@@ -40,7 +40,7 @@ loop-i-preserved c =
 pub returns : goal.returns
 returns c =
     let start = c in
-    let ps = start.args.t3 in
+    let ps = start.args.ps in
     let long : length ps ≡ 7 = search rules in
     let all : c.loop-i.i ≡ 7 = omega arith in
     let whole : take c.loop-i.i ps ≡ ps = ap (λ (j : ℕ). take j ps) all ∙ take_all 7 ps (omega arith) in

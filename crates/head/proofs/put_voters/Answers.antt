@@ -23,7 +23,7 @@ pub loop-i-preserved : goal.loop-i-preserved
 loop-i-preserved c =
     let start = c in
     let at-loop = c.loop-i in
-    let vs = start.args.t3 in
+    let vs = start.args.vs in
     let at = start.args.at in
     let i = at-loop.i in
     let l = start.args.s.now in
@@ -41,7 +41,7 @@ loop-i-preserved c =
 pub returns : goal.returns
 returns c =
     let start = c in
-    let vs = start.args.t3 in
+    let vs = start.args.vs in
     let long : length vs ≡ 7 = search rules in
     let all : c.loop-i.i ≡ 7 = omega arith in
     let whole : take c.loop-i.i vs ≡ vs = ap (λ (j : ℕ). take j vs) all ∙ take_all 7 vs (omega arith) in

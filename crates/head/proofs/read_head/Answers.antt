@@ -12,10 +12,10 @@ returns c =
     simp (
       c.places_at.ensures,
       c.voters_at.ensures,
-      at_role.place-at3.ensures,
-      at_role.place-at2.ensures,
+      at_role.place_at-3.ensures,
+      at_role.place_at-2.ensures,
       at_role.place_at.ensures,
-      at_role.term-at2.ensures,
+      at_role.term_at-2.ensures,
       at_role.term_at.ensures,
       word_at_byte start.args.s.now 20 (omega (arith, start.requires)),
     )

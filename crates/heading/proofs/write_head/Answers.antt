@@ -8,14 +8,14 @@ use Rattle.heading.proofs.write_head.Goals as goal
 pub write_two-p-requires : goal.write_two-p-requires
 write_two-p-requires c =
     let start = c in
-    joins_room (head_lines start.args.f c.number.ensures c.number2.ensures refl) start.args.out.now start.args.at start.requires
+    joins_room (head_lines start.args.f c.number.ensures c.number-2.ensures refl) start.args.out.now start.args.at start.requires
 
 -- And for to.
 pub write_line-requires : goal.write_line-requires
 write_line-requires c =
     let at-two = c in
     let start = at-two in
-    joins_next (head_lines start.args.f at-two.number.ensures at-two.number2.ensures c.number3.ensures) start.requires
+    joins_next (head_lines start.args.f at-two.number.ensures at-two.number-2.ensures c.number-3.ensures) start.requires
     at-two.write_two-p.ensures
 
 -- They are the three lines.
@@ -25,5 +25,5 @@ returns c =
     let at-two = at_one in
     let start = at-two in
     joins_wrote
-    (head_lines start.args.f at-two.number.ensures at-two.number2.ensures at_one.number3.ensures)
+    (head_lines start.args.f at-two.number.ensures at-two.number-2.ensures at_one.number-3.ensures)
     at-two.write_two-p.ensures at_one.write_line.ensures

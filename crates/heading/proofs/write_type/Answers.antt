@@ -13,59 +13,59 @@ put-requires c =
 
 pub returns-in-VoteRequest : goal.returns-in-VoteRequest
 unfolding type_text
-returns-in-VoteRequest c = wrote_as (ap type_text c.enum_told.given.1) c.put.ensures
+returns-in-VoteRequest c = wrote_as (ap type_text c.in-VoteRequest.is) c.put.ensures
 
 -- A vote-yes. There is room for its line, and it is written.
 pub put-requires-in-VoteYes : goal.put-requires-in-VoteYes
 unfolding type_text
 put-requires-in-VoteYes c =
     let start = c in
-    room_start (ap type_text c.enum_told-in-VoteYes-1.given.1) start.args.out.now start.requires
+    room_start (ap type_text c.in-VoteYes.is) start.args.out.now start.requires
 
 pub returns-in-VoteYes : goal.returns-in-VoteYes
 unfolding type_text
-returns-in-VoteYes c = wrote_as (ap type_text c.enum_told-in-VoteYes-1.given.1) c.put-in-VoteYes.ensures
+returns-in-VoteYes c = wrote_as (ap type_text c.in-VoteYes.is) c.put-in-VoteYes.ensures
 
 -- A vote-no. There is room for its line, and it is written.
 pub put-requires-in-VoteNo : goal.put-requires-in-VoteNo
 unfolding type_text
 put-requires-in-VoteNo c =
     let start = c in
-    room_start (ap type_text c.enum_told-in-VoteNo-1.given.1) start.args.out.now start.requires
+    room_start (ap type_text c.in-VoteNo.is) start.args.out.now start.requires
 
 pub returns-in-VoteNo : goal.returns-in-VoteNo
 unfolding type_text
-returns-in-VoteNo c = wrote_as (ap type_text c.enum_told-in-VoteNo-1.given.1) c.put-in-VoteNo.ensures
+returns-in-VoteNo c = wrote_as (ap type_text c.in-VoteNo.is) c.put-in-VoteNo.ensures
 
 -- An append. There is room for its line, and it is written.
 pub put-requires-in-Append : goal.put-requires-in-Append
 unfolding type_text
 put-requires-in-Append c =
     let start = c in
-    room_start (ap type_text c.enum_told-in-Append-1.given.1) start.args.out.now start.requires
+    room_start (ap type_text c.in-Append.is) start.args.out.now start.requires
 
 pub returns-in-Append : goal.returns-in-Append
 unfolding type_text
-returns-in-Append c = wrote_as (ap type_text c.enum_told-in-Append-1.given.1) c.put-in-Append.ensures
+returns-in-Append c = wrote_as (ap type_text c.in-Append.is) c.put-in-Append.ensures
 
 -- An append-yes. There is room for its line, and it is written.
 pub put-requires-in-AppendYes : goal.put-requires-in-AppendYes
 unfolding type_text
 put-requires-in-AppendYes c =
     let start = c in
-    room_start (ap type_text c.enum_told-in-AppendYes-1.given.1) start.args.out.now start.requires
+    room_start (ap type_text c.in-AppendYes.is) start.args.out.now start.requires
 
 pub returns-in-AppendYes : goal.returns-in-AppendYes
 unfolding type_text
-returns-in-AppendYes c = wrote_as (ap type_text c.enum_told-in-AppendYes-1.given.1) c.put-in-AppendYes.ensures
+returns-in-AppendYes c = wrote_as (ap type_text c.in-AppendYes.is) c.put-in-AppendYes.ensures
 
 -- An append-no. There is room for its line, and it is written.
 pub put-requires-in-AppendNo : goal.put-requires-in-AppendNo
 unfolding type_text
 put-requires-in-AppendNo c =
     let start = c in
-    room_start (ap type_text c.enum_told-in-AppendNo-1.given.1) start.args.out.now start.requires
+    room_start (ap type_text c.in-AppendNo.is) start.args.out.now start.requires
 
 pub returns-in-AppendNo : goal.returns-in-AppendNo
 unfolding type_text
-returns-in-AppendNo c = wrote_as (ap type_text c.enum_told-in-AppendNo-1.given.1) c.put-in-AppendNo.ensures
+returns-in-AppendNo c = wrote_as (ap type_text c.in-AppendNo.is) c.put-in-AppendNo.ensures

@@ -11,4 +11,4 @@ overflow_add-number c = omega (arith, limit_small)
 -- A leader.
 pub returns : goal.returns
 unfolding leading following
-returns c = simp (c.follow-next.ensures, c.of-long.ensures, c.number2.ensures, c.number.ensures, c.index_of-i.ensures)
+returns c = simp (c.follow-next.ensures, c.of-long.ensures, c.number-2.ensures, c.number.ensures, c.index_of-i.ensures)

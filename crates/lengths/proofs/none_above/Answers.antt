@@ -15,7 +15,7 @@ use Rattle.lengths.proofs.none_above.Goals as goal
 pub returns-then-below : goal.returns-then-below
 returns-then-below c =
     let start = c in
-    let ps = start.args.t1 in
+    let ps = start.args.ps in
     let n = start.args.n.0 in
     let at-loop = c.loop-i in
     let long : length ps ≡ 7 = search rules in
@@ -28,7 +28,7 @@ returns-then-below c =
 pub loop-i-preserved : goal.loop-i-preserved
 loop-i-preserved c =
     let start = c in
-    let ps = start.args.t1 in
+    let ps = start.args.ps in
     let n = start.args.n.0 in
     let at-loop = c.loop-i in
     let long : length ps ≡ 7 = search rules in
@@ -40,6 +40,6 @@ loop-i-preserved c =
 pub returns : goal.returns
 returns c =
     let start = c in
-    let ps = start.args.t1 in
+    let ps = start.args.ps in
     let long : length ps ≡ 7 = search rules in
     sym (c.loop-i.invariant ∙ all_ends (λ (p : Place). leb p.0 start.args.n.0) ps c.loop-i.i (omega arith))

@@ -20,7 +20,7 @@ loop-i-preserved c =
     let start = c.args in
     let i = c.loop-i.i in
     let p = start.p.0 in
-    let ps = start.t2 in
+    let ps = start.confirmed in
     let long : length ps ≡ 7 = search rules in
     let next = count_next (leb p) ps start.n i in
     let below = c.below.ensures in
@@ -35,6 +35,6 @@ unfolding confirmed_by
 returns c =
     let start = c.args in
     let loop = c.loop-i in
-    let all = count_all (leb start.p.0) start.t2 start.n loop.i (omega arith) in
-    let found : count (leb start.p.0) (take start.n (place_numbers start.t2)) ≡ loop.found = omega (arith, loop.invariant.2) in
+    let all = count_all (leb start.p.0) start.confirmed start.n loop.i (omega arith) in
+    let found : count (leb start.p.0) (take start.n (place_numbers start.confirmed)) ≡ loop.found = omega (arith, loop.invariant.2) in
     rw found

@@ -9,7 +9,7 @@ use Rattle.majority.proofs.majority_place.Goals as goal
 
 -- No length is tried.
 pub loop-tried-init : goal.loop-tried-init
-loop-tried-init c = rw c.of-best.ensures (tried_none c.args.n c.args.t2)
+loop-tried-init c = rw c.of-best.ensures (tried_none c.args.n c.args.confirmed)
 
 -- One more is tried.
 pub loop-tried-preserved : goal.loop-tried-preserved
@@ -30,7 +30,7 @@ returns-then-below-2 c =
     let loop = c.loop-tried in
     let all = c.loop-tried-test.false in
     let last = c.of-last.ensures ∙ ap place c.places.ensures in
-    tried_beyond loop.invariant all (search rules) _ last (sym c.below2.ensures ∙ c.if-below-2.true)
+    tried_beyond loop.invariant all (search rules) _ last (sym c.below-2.ensures ∙ c.if-below-2.true)
 
 -- All are tried, and the best is a place.
 pub returns-else-below-2 : goal.returns-else-below-2
@@ -38,4 +38,4 @@ returns-else-below-2 c =
     let loop = c.loop-tried in
     let all = c.loop-tried-test.false in
     let last = c.of-last.ensures ∙ ap place c.places.ensures in
-    tried_within loop.invariant all (search rules) _ last (sym c.below2.ensures ∙ c.if-below-2.false)
+    tried_within loop.invariant all (search rules) _ last (sym c.below-2.ensures ∙ c.if-below-2.false)

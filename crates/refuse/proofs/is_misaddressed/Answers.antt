@@ -6,4 +6,4 @@ use Rattle.refuse.proofs.is_misaddressed.Goals as goal
 pub returns : goal.returns
 unfolding is_misaddressed
 returns c =
-    λ s. rw (c.number.ensures, c.equals.ensures, c.equals2.ensures, c.number2.ensures)
+    λ s. rw (c.number.ensures, c.equals.ensures, c.equals-2.ensures, c.number-2.ensures)

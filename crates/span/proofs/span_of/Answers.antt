@@ -13,7 +13,7 @@ unfolding span_of count_in low_in high_in
 returns-in-VoteYes c =
     let at_body = c in
     let start = at_body in
-    span-is start.args.f _ _ _ _ at_body.body.given.1 refl refl c.number.ensures
+    span-is start.args.f _ _ _ _ at_body.in-VoteYes.is refl refl c.number.ensures
 
 -- An append.
 pub returns-in-Append : goal.returns-in-Append
@@ -23,32 +23,32 @@ returns-in-Append c =
     let at-number2 = at-at-least-one in
     let at-body2 = at-number2 in
     let start = at-body2 in
-    span-is start.args.f _ _ _ _ at-body2.body-in-Append-1.given.1 refl (at-at-least-one.at_least_one.ensures ∙ ap (λ (x : ℕ). max 1 x) at-number2.number-in-Append.ensures) c.number-in-Append-2.ensures
+    span-is start.args.f _ _ _ _ at-body2.in-Append.is refl (at-at-least-one.at_least_one.ensures ∙ ap (λ (x : ℕ). max 1 x) at-number2.number-in-Append.ensures) c.number-in-Append-2.ensures
 
 -- A vote-request.
 pub returns-in-VoteRequest : goal.returns-in-VoteRequest
 unfolding span_of count_in low_in high_in
 returns-in-VoteRequest c =
     let start = c in
-    span-is start.args.f _ _ _ _ c.enum_told.given.1 refl refl refl
+    span-is start.args.f _ _ _ _ c.in-VoteRequest.is refl refl refl
 
 -- A vote-no.
 pub returns-in-VoteNo : goal.returns-in-VoteNo
 unfolding span_of count_in low_in high_in
 returns-in-VoteNo c =
     let start = c in
-    span-is start.args.f _ _ _ _ c.enum_told-in-VoteNo-1.given.1 refl refl refl
+    span-is start.args.f _ _ _ _ c.in-VoteNo.is refl refl refl
 
 -- An append-yes.
 pub returns-in-AppendYes : goal.returns-in-AppendYes
 unfolding span_of count_in low_in high_in
 returns-in-AppendYes c =
     let start = c in
-    span-is start.args.f _ _ _ _ c.enum_told-in-AppendYes-1.given.1 refl refl refl
+    span-is start.args.f _ _ _ _ c.in-AppendYes.is refl refl refl
 
 -- An append-no.
 pub returns-in-AppendNo : goal.returns-in-AppendNo
 unfolding span_of count_in low_in high_in
 returns-in-AppendNo c =
     let start = c in
-    span-is start.args.f _ _ _ _ c.enum_told-in-AppendNo-1.given.1 refl refl refl
+    span-is start.args.f _ _ _ _ c.in-AppendNo.is refl refl refl

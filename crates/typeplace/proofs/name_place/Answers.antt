@@ -14,10 +14,10 @@ returns c =
     let at_first = at_second in
     let start = at_first in
     rw (
-      c.later5.ensures,
-      c.later4.ensures,
-      c.later3.ensures,
-      c.later2.ensures,
+      c.later-5.ensures,
+      c.later-4.ensures,
+      c.later-3.ensures,
+      c.later-2.ensures,
       c.later.ensures,
     )
     (ends_wrong

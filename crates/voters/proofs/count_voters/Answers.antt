@@ -12,7 +12,7 @@ use Rattle.voters.proofs.count_voters.Goals as goal
 -- A voter is counted, another hub is passed.
 pub loop-i-preserved : goal.loop-i-preserved
 loop-i-preserved c =
-    let vs = c.args.t1 in
+    let vs = c.args.vs in
     let i = c.loop-i.i in
     let long : length vs ≡ 7 = search rules in
     ⊎_elim
@@ -23,6 +23,6 @@ loop-i-preserved c =
 -- All are passed.
 pub returns : goal.returns
 returns c =
-    let vs = c.args.t1 in
+    let vs = c.args.vs in
     let long : length vs ≡ 7 = search rules in
     omega (arith, count_ends vs c.loop-i.i (omega arith))

@@ -8,10 +8,10 @@ use borrow.Author.Rules.{rules}
 use Rattle.voters.proofs.has_voted.Goals as goal
 
 pub returns-then-i-lt7 : goal.returns-then-i-lt7
-looked-up c = ap (λ (i : ℕ). get_or c.args.t1 i false) c.index_of-i.ensures
+looked-up c = ap (λ (i : ℕ). get_or c.args.vs i false) c.index_of-i.ensures
 
 pub returns-else-i-lt7 : goal.returns-else-i-lt7
 returns-else-i-lt7 c =
-    let vs = c.args.t1 in
+    let vs = c.args.vs in
     let long : length vs ≡ 7 = search rules in
     sym (get_or-eq_default vs false (omega (arith, c.index_of-i.ensures)))

@@ -11,20 +11,20 @@ use Rattle.voters.proofs.no_voters.Goals as goal
 -- A voter.
 pub returns-then-vs-i : goal.returns-then-vs-i
 returns-then-vs-i c =
-    let vs = c.args.t1 in
+    let vs = c.args.vs in
     let long : length vs ≡ 7 = search rules in
     sym (c.loop-i.invariant ∙ all_stops not vs c.loop-i.i false (omega arith) (ap not c.if-vs-i.true))
 
 -- No voter here.
 pub loop-i-preserved : goal.loop-i-preserved
 loop-i-preserved c =
-    let vs = c.args.t1 in
+    let vs = c.args.vs in
     let long : length vs ≡ 7 = search rules in
     c.loop-i.invariant ∙ all_goes not vs c.loop-i.i false (omega arith) (ap not c.if-vs-i.false)
 
 -- All are passed.
 pub returns : goal.returns
 returns c =
-    let vs = c.args.t1 in
+    let vs = c.args.vs in
     let long : length vs ≡ 7 = search rules in
     sym (c.loop-i.invariant ∙ all_ends not vs c.loop-i.i (omega arith))
