@@ -71,7 +71,7 @@ follower_agrees k (append_no n) = refl
 -- A message of the term t that is true, legal, from a hub of the group and not for another.
 record Arrives (G : Group) (H : Hall Command) (made : Logs) (h t from to : ℕ) (b : Body) : Type 0 where
   true_says : TrueBody G H made t from to b
-  legal_to_lem : legal_to to b ≡ true
+  allowed : legal_to to b ≡ true
   legal : legal_body t b ≡ true
   first : 1 ≤ from
   last : from ≤ G.size
@@ -117,7 +117,7 @@ module _ {G : Group} {H : Hall Command} {made : Logs} (ok : Ground G H made) {h 
   obeys f legal from to (vote_request last ballot) x r agrees = clash (cc)
   obeys {s} f legal from to (vote_yes last ballot entries) x r agrees =
       hears_yes s.kept s.lost f legal from last ballot entries
-      (subst (λ (n : ℕ). Yields H from s.kept.term n last ballot entries) (addressed h to x.legal-to x.mine) x.true_says)
+      (subst (λ (n : ℕ). Yields H from s.kept.term n last ballot entries) (addressed h to x.allowed x.mine) x.true_says)
       x.first x.last agrees
   obeys f legal from to vote_no x r agrees = stays ok f tt
   obeys {s} f legal from to (append prev prevterm chosen entries) x r agrees =
@@ -144,7 +144,7 @@ module _ {G : Group} {H : Hall Command} {made : Logs} (ok : Ground G H made) {h 
       later_on =
           record {
             true_says = body_on (later ok x.acts) G t from to b a.true_says;
-            legal_to_lem = a.legal-to;
+            allowed = a.allowed;
             legal = a.legal;
             first = a.first;
             last = a.last;
@@ -204,7 +204,7 @@ module _ {G : Group} {H : Hall Command} {made : Logs} (ok : Ground G H made) {h 
       let a : Arrives G H made h m.term m.from m.to m.body =
       record {
         true_says = t;
-        legal_to_lem = l.to;
+        allowed = l.to;
         legal = l.body;
         first = l.from;
         last = ltb-false G.size m.from (or_first far (self || astray) z);

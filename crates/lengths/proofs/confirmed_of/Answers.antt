@@ -8,7 +8,7 @@ use Rattle.kinds.specs.Of.{place}
 use Rattle.lengths.proofs.confirmed_of.Goals as goal
 
 pub returns-then-i-lt7 : goal.returns-then-i-lt7
-looked-up c = ap (λ (i : ℕ). get_or c.args.ps i (place 0)) c.index_of-i.ensures
+returns-then-i-lt7 c = ap (λ (i : ℕ). get_or c.args.ps i (place 0)) c.index_of-i.ensures
 
 pub returns-else-i-lt7 : goal.returns-else-i-lt7
 returns-else-i-lt7 c =

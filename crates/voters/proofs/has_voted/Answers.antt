@@ -8,7 +8,7 @@ use borrow.Author.Rules.{rules}
 use Rattle.voters.proofs.has_voted.Goals as goal
 
 pub returns-then-i-lt7 : goal.returns-then-i-lt7
-looked-up c = ap (λ (i : ℕ). get_or c.args.vs i false) c.index_of-i.ensures
+returns-then-i-lt7 c = ap (λ (i : ℕ). get_or c.args.vs i false) c.index_of-i.ensures
 
 pub returns-else-i-lt7 : goal.returns-else-i-lt7
 returns-else-i-lt7 c =
