@@ -58,6 +58,7 @@ total_out left g n (h ∷ gs) out =
 
 total_less : (left : ℕ → ℕ) (g n : ℕ) (gs : List ℕ) → Distinct gs → g ∈ gs → left g ≡ suc n → total left gs ≡ suc (total (put left g n) gs)
 unfolding total
+total_less left g n [] once m e = elim m [ ]
 total_less left g n (h ∷ gs) (out, once) here e = omega (arith, put_same left g n, total_out left g n gs out)
 total_less left g n (h ∷ gs) (out, once) (there m) e =
     omega (arith, total_less left g n gs once m e, put_other left g n h (λ z. out (rw z m)))

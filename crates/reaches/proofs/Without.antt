@@ -3,7 +3,7 @@ use Prim.Native.Nat.{ℕ, suc, max}
 use native.Mathlib.Omega.{arith}
 use mathlib.Core.Path.{◌≡◌, refl, sym, ◌∙◌}
 use mathlib.Core.Logic.{◌≢◌}
-use mathlib.Core.List.{List, ◌∷◌}
+use mathlib.Core.List.{List, [], ◌∷◌}
 use lib.ListN.{length}
 use Rattle.state.specs.State.{State}
 use Rattle.rules.specs.Events.{len}
@@ -18,6 +18,7 @@ pub data Without (g : ℕ) : List ℕ → List ℕ → Type 0 where
 
 -- A hub that is in a list can be left out.
 pub without : {g : ℕ} (gs : List ℕ) → g ∈ gs → (less : List ℕ) × Without g gs less
+without [] m = elim m [ ]
 without (g ∷ gs) here = (gs, first)
 without (h ∷ gs) (there m) = let (less, w) = without gs m in (h ∷ less, later w)
 
