@@ -1,5 +1,5 @@
 -- What others need to know of the limit and of a text's room: they are numbers of 32 bits, and the text of a full log fits. Assumes nothing.
-use Prim.Native.Nat.{ℕ, ◌+◌, ◌*◌, ◌≤◌, ◌<◌}
+use Prim.Native.Nat.{◌+◌, ◌*◌, ◌≤◌, ◌<◌}
 use native.Mathlib.Omega.{arith}
 use Rattle.kinds.specs.Sizes.{limit, text_room, term_most}
 use Rattle.kinds.specs.Packed.{half, places_room}
