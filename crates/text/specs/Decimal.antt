@@ -2,7 +2,7 @@
 -- A number has no limit here: what is too large is a matter of the field that holds it. Assumes nothing.
 use Rattle.std.specs.Prelude.{ℕ, zero, suc, ◌+◌, ◌-◌, ◌*◌, ◌/◌, ◌%◌, Bool, true, false, List, [], ◌∷◌, ◌++◌, ltb, eqb}
 use Rattle.kinds.specs.Sizes.{between}
-use Rattle.text.specs.Reader.{Got, got, lost, Reader}
+use Rattle.text.specs.Reader.{got, lost, Reader}
 
 -- The byte of the digit 0. The other digits follow it.
 abbrev pub zero_digit : ℕ

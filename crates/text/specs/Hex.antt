@@ -2,7 +2,7 @@
 use Rattle.std.specs.Prelude.{ℕ, zero, suc, ◌+◌, ◌-◌, ◌*◌, ◌/◌, ◌%◌, true, false, List, [], ◌∷◌, ltb}
 use Rattle.kinds.specs.Sizes.{between}
 use Rattle.text.specs.Decimal.{zero_digit, is_digit}
-use Rattle.text.specs.Reader.{Got, got, lost, Reader, ◌>>=◌, pure}
+use Rattle.text.specs.Reader.{got, lost, Reader, ◌>>=◌, pure}
 
 -- The byte of the digit a, which stands for ten. The others follow it, to f.
 abbrev pub ten_digit : ℕ

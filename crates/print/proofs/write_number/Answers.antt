@@ -1,6 +1,5 @@
 -- `print::write_number` meets its contract. The loop's invariant: the digits of x behind those of v are written, and v's end at i. The measure
 -- is v. Assumes nothing.
-use lib.ListN.{length}
 use borrow.Author.Rules.{rules}
 use Rattle.text.proofs.WroteLaws.{tail_some, tail_none, tail_room, tail_before, tail_length, tail_more, tail_first}
 use Rattle.print.proofs.write_number.Goals as goal

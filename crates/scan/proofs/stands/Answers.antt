@@ -2,7 +2,6 @@
 -- room for it. The measure is what is left of the literal. Assumes nothing.
 use native.Mathlib.Omega.{arith}
 use borrow.Author.Rules.{rules}
-use Rattle.text.specs.Reader.{literal}
 use Rattle.text.proofs.FoundLaws.{literal_few, four_same, four_other, literal_rest}
 use Rattle.scan.proofs.stands.Goals as goal
 
