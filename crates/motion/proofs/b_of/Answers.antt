@@ -4,4 +4,4 @@ use Rattle.command.specs.Case.{b_of}
 use Rattle.motion.proofs.b_of.Goals as goal
 
 pub returns-in-Ramp : goal.returns-in-Ramp
-returns-in-Ramp c = c.bits_of.ensures ∙ sym (ap b_of c.case-1.given.1)
+returns-in-Ramp c = c.bits_of.ensures ∙ sym (ap b_of c.in-Ramp.is)

@@ -9,12 +9,12 @@ use Rattle.motion.proofs.case_of.Goals as goal
 -- Kind 0.
 pub returns-in-0 : goal.returns-in-0
 unfolding case_of
-returns-in-0 c = rw c.in-0.keys1
+returns-in-0 c = rw c.in-0.is
 
 -- Kind 1.
 pub returns-in-1 : goal.returns-in-1
 unfolding case_of
-returns-in-1 c = rw c.in-0.keys2 (ap Buzz c.gain_of.ensures)
+returns-in-1 c = rw c.in-1.is (ap Buzz c.gain_of.ensures)
 
 -- Any other kind.
 pub returns-in_default : goal.returns-in_default

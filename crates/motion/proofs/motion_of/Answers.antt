@@ -1,8 +1,19 @@
 -- `motion::motion_of` meets its contract: a legal command's numbers are small. Assumes nothing.
+use native.Mathlib.Omega.{arith}
 use Rattle.command.specs.Case.{motion_of}
 use Rattle.command.specs.Answers.{of_numbers}
 use Rattle.command.proofs.WordsLaws.{to_z_signed}
+use Rattle.command.proofs.AnswersLaws.{legal_small}
 use Rattle.motion.proofs.motion_of.Goals as goal
+
+pub case_of-case-requires : goal.case_of-case-requires
+case_of-case-requires c = let l = legal_small c.args.n c.requires in (l.a_most, l.b_most)
+
+pub overflow_cast-result : goal.overflow_cast-result
+overflow_cast-result c = omega (arith, legal_small c.args.n c.requires)
+
+pub overflow_cast-result-2 : goal.overflow_cast-result-2
+overflow_cast-result-2 c = omega (arith, legal_small c.args.n c.requires)
 
 pub returns : goal.returns
 unfolding motion_of of_numbers
