@@ -8,7 +8,7 @@ use mathlib.Core.Bool.{Bool, true, false, false≢true, not, ◌&&◌, ◌||◌,
 use mathlib.Core.List.{List, [], ◌∷◌, ◌++◌, map}
 use borrow.Author.Tests.{eqb-true, leb-true, ltb-true, le-leb, lt-ltb}
 use lib.Dec.{eqb, leb, ltb}
-use lib.ListN.{length, take, drop, get_or, length-drop}
+use lib.ListN.{length, drop, get_or, length-drop}
 use lib.Seq.{take_all}
 use Rattle.kinds.specs.Sizes.{Who, between, hubs_most, limit, row_size}
 use Rattle.command.specs.Words.{part}

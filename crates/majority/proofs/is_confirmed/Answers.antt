@@ -2,7 +2,6 @@
 -- The measure is what is left of the hubs. Assumes nothing.
 use mathlib.Core.Path.{◌≡◌, sym, ◌∙◌}
 use mathlib.Core.Bool.{true, false}
-use mathlib.Core.Logic.{⊎_elim}
 use native.Mathlib.Omega.{arith}
 use lib.Dec.{leb}
 use lib.ListN.{length, take}
@@ -12,6 +11,7 @@ use Rattle.state.specs.Legal.{count}
 use Rattle.rules.specs.Majority.{confirmed_by}
 use Rattle.majority.specs.Numbers.{place_numbers}
 use Rattle.majority.proofs.ConfirmedLaws.{count_next, count_all}
+use Rattle.majority.proofs.is_confirmed.Goals.{then-not-below, else-not-below}
 use Rattle.majority.proofs.is_confirmed.Goals as goal
 
 -- A hub is counted, or passed.
@@ -24,10 +24,10 @@ loop-i-preserved c =
     let long : length ps ≡ 7 = search rules in
     let next = count_next (leb p) ps start.n i in
     let below = c.below.ensures in
-    ⊎_elim
-    (λ w. omega (arith, next true (omega arith) (omega arith) (le-leb p _ (ltb-false _ p (sym below ∙ w.0.taken)))))
-    (λ w. omega (arith, next false (omega arith) (omega arith) (lt-leb p _ (ltb-true _ p (sym below ∙ w.0.left)))))
-    c.if-not-below.branch
+    elim c.if-not-below.branch [
+      | then-not-below w ↦ omega (arith, next true (omega arith) (omega arith) (le-leb p _ (ltb-false _ p (sym below ∙ w.if-not-below.true))))
+      | else-not-below w ↦ omega (arith, next false (omega arith) (omega arith) (lt-leb p _ (ltb-true _ p (sym below ∙ w.if-not-below.false))))
+    ]
 
 -- All are passed.
 pub returns : goal.returns

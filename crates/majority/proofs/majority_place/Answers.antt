@@ -1,10 +1,10 @@
 -- `majority::majority_place` meets its contract. The loop's invariant: of the lengths tried so far, `best` is the largest that is confirmed by
 -- a majority. The measure is what is left of the hubs. Assumes nothing.
 use mathlib.Core.Path.{sym, ◌∙◌, ap}
-use mathlib.Core.Logic.{⊎_elim}
 use borrow.Author.Rules.{rules}
 use Rattle.kinds.specs.Of.{place}
 use Rattle.majority.proofs.TriedLaws.{tried_none, tried_found, tried_unconfirmed, tried_lower, tried_beyond, tried_within}
+use Rattle.majority.proofs.majority_place.Goals.{then-below+then-is_confirmed, then-below+else-is_confirmed, else-below}
 use Rattle.majority.proofs.majority_place.Goals as goal
 
 -- No length is tried.
@@ -17,12 +17,12 @@ loop-tried-preserved c =
     let inv = c.loop-tried.invariant in
     let left = c.loop-tried-test.true in
     let below = sym c.below.ensures in
-    ⊎_elim
-    (λ w. rw w.3 (tried_found inv left (below ∙ w.0.taken) (sym w.1.ensures ∙ w.2.taken)))
-    (⊎_elim
-    (λ w. rw w.3 (tried_unconfirmed inv left (sym w.1.ensures ∙ w.2.left)))
-    (λ w. rw w.1 (tried_lower inv left (below ∙ w.0.left))))
-    c.if-below.branch
+    elim c.if-below.branch [
+      | then-below+then-is_confirmed w ↦
+          rw w.best-is (tried_found inv left (below ∙ w.if-below.true) (sym w.is_confirmed.ensures ∙ w.if-is_confirmed.true))
+      | then-below+else-is_confirmed w ↦ rw w.best-is (tried_unconfirmed inv left (sym w.is_confirmed.ensures ∙ w.if-is_confirmed.false))
+      | else-below w ↦ rw w.best-is (tried_lower inv left (below ∙ w.if-below.false))
+    ]
 
 -- All are tried, and the best lies beyond the last place.
 pub returns-then-below-2 : goal.returns-then-below-2
