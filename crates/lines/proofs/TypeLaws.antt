@@ -1,7 +1,7 @@
 -- Which type the first line has, from what stands at a place of the text s: the names are tried one after the other. Assumes nothing.
 use Prim.Native.Nat.{ℕ, ◌≤◌}
 use mathlib.Core.List.{List, [], ◌∷◌, ◌++◌}
-use mathlib.Core.Path.{◌≡◌, refl, ◌∙◌}
+use mathlib.Core.Path.{◌≡◌, ◌∙◌}
 use lib.ListN.{length, drop}
 use Rattle.text.specs.Found.{Found, FoundNext}
 use Rattle.text.specs.Line.{LF}

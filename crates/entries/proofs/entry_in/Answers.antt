@@ -1,4 +1,6 @@
 -- `entries::entry_in` meets its contract: the parts of a line, one after the other, up to the first that is none. Assumes nothing.
+use mathlib.Core.Bool.{not}
+use mathlib.Core.Path.{ap}
 use native.Mathlib.Omega.{arith}
 use borrow.Author.Rules.{rules}
 use Rattle.entries.proofs.CheckLaws.{entry-no-key, key_inside, entry-no-term, term_inside, entry-no-tail, entry_is, tail_inside}
@@ -29,7 +31,7 @@ returns-then-not-is_tail c = search (rules, entry-no-tail)
 
 -- The line ends inside the text.
 pub overflow_add-result : goal.overflow_add-result
-overflow_add-result c = omega (arith, tail_inside _ _ c.is_tail.result c.is_tail.ensures c.if-not-is_tail.false)
+overflow_add-result c = omega (arith, tail_inside c.args.s.now c.in-Is.next c.is_tail.result c.is_tail.ensures (ap not c.if-not-is_tail.false))
 
 -- All of it stands there.
 pub returns : goal.returns
