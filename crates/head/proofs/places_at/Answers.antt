@@ -4,7 +4,6 @@ use Rattle.head.proofs.places_at.Goals as goal
 
 pub returns : goal.returns
 returns c =
-    let start = c in
     simp (
       c.place_at-g.ensures,
       c.place_at-f.ensures,
@@ -13,5 +12,5 @@ returns c =
       c.place_at-c.ensures,
       c.place_at-b.ensures,
       c.place_at-a.ensures,
-      words_seven start.args.s.now start.args.at,
+      words_seven c.args.s.now c.args.at,
     )

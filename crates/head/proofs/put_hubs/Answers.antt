@@ -16,12 +16,10 @@ use Rattle.head.proofs.put_hubs.Goals as goal
 
 pub returns : goal.returns
 returns c =
-    let at-voters = c in
-    let start = at-voters in
-    let vs = start.args.vs in
-    let places = bytes_of place_bytes start.args.ps in
-    let at = start.args.at in
+    let vs = c.args.vs in
+    let places = bytes_of place_bytes c.args.ps in
+    let at = c.args.at in
     let long : length vs ≡ 7 = search rules in
     c.put_places.ensures
-    ∙ ap (λ (l : List ℕ). sets l (at + 7) places) at-voters.put_voters.ensures
-    ∙ sets_then start.args.s.now at (at + 7) (flags vs) places (omega (arith, flags_length vs))
+    ∙ ap (λ (l : List ℕ). sets l (at + 7) places) c.put_voters.ensures
+    ∙ sets_then c.args.s.now at (at + 7) (flags vs) places (omega (arith, flags_length vs))

@@ -23,25 +23,23 @@ loop-i-init c = (search rules, refl, refl)
 -- One place more.
 pub loop-i-preserved : goal.loop-i-preserved
 loop-i-preserved c =
-    let start = c in
     let at-loop = c.loop-i in
-    let ps = start.args.ps in
-    let at = start.args.at in
+    let ps = c.args.ps in
+    let at = c.args.at in
     let i = at-loop.i in
     let long : length ps ≡ 7 = search rules in (
       search rules,
       search rules,
       c.put_place.ensures
           ∙ ap (λ (s : List ℕ). sets s (at + i * 4) (place_bytes (get_or ps i (place 0)))) at-loop.invariant.2
-          ∙ bytes_of_put place_bytes 4 place_bytes_length start.args.s.now at ps i (place 0) (omega arith),
+          ∙ bytes_of_put place_bytes 4 place_bytes_length c.args.s.now at ps i (place 0) (omega arith),
     )
 
 -- All seven are.
 pub returns : goal.returns
 returns c =
-    let start = c in
-    let ps = start.args.ps in
+    let ps = c.args.ps in
     let long : length ps ≡ 7 = search rules in
     let all : c.loop-i.i ≡ 7 = omega arith in
     let whole : take c.loop-i.i ps ≡ ps = ap (λ (j : ℕ). take j ps) all ∙ take_all 7 ps (omega arith) in
-    c.loop-i.invariant.2 ∙ ap (λ (qs : List Place). sets start.args.s.now start.args.at (bytes_of place_bytes qs)) whole
+    c.loop-i.invariant.2 ∙ ap (λ (qs : List Place). sets c.args.s.now c.args.at (bytes_of place_bytes qs)) whole

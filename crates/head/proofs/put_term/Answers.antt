@@ -6,6 +6,4 @@ use Rattle.command.specs.Words.{word}
 use Rattle.head.proofs.put_term.Goals as goal
 
 pub returns : goal.returns
-returns c =
-    let start = c in
-    c.put32.ensures ∙ ap (λ (n : ℕ). sets start.args.s.now start.args.at (word 4 n)) c.number.ensures
+returns c = c.put32.ensures ∙ ap (λ (n : ℕ). sets c.args.s.now c.args.at (word 4 n)) c.number.ensures

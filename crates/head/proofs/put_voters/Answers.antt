@@ -21,12 +21,11 @@ loop-i-init c = (search rules, refl, refl)
 -- One byte more.
 pub loop-i-preserved : goal.loop-i-preserved
 loop-i-preserved c =
-    let start = c in
     let at-loop = c.loop-i in
-    let vs = start.args.vs in
-    let at = start.args.at in
+    let vs = c.args.vs in
+    let at = c.args.at in
     let i = at-loop.i in
-    let l = start.args.s.now in
+    let l = c.args.s.now in
     let long : length vs ≡ 7 = search rules in
     let one : at + i ≡ at + i * 1 = omega arith in (
       search rules,
@@ -40,11 +39,10 @@ loop-i-preserved c =
 -- All seven are.
 pub returns : goal.returns
 returns c =
-    let start = c in
-    let vs = start.args.vs in
+    let vs = c.args.vs in
     let long : length vs ≡ 7 = search rules in
     let all : c.loop-i.i ≡ 7 = omega arith in
     let whole : take c.loop-i.i vs ≡ vs = ap (λ (j : ℕ). take j vs) all ∙ take_all 7 vs (omega arith) in
     c.loop-i.invariant.2
-    ∙ ap (λ (bs : List Bool). sets start.args.s.now start.args.at (bytes_of flag_bytes bs)) whole
-    ∙ ap (sets start.args.s.now start.args.at) (sym (flags_bytes_of vs))
+    ∙ ap (λ (bs : List Bool). sets c.args.s.now c.args.at (bytes_of flag_bytes bs)) whole
+    ∙ ap (sets c.args.s.now c.args.at) (sym (flags_bytes_of vs))

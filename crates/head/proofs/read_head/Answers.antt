@@ -7,15 +7,13 @@ use Rattle.head.proofs.read_head.Goals as goal
 pub returns : goal.returns
 unfolding head_in
 returns c =
-    let at_role = c in
-    let start = at_role in
     simp (
       c.places_at.ensures,
       c.voters_at.ensures,
-      at_role.place_at-3.ensures,
-      at_role.place_at-2.ensures,
-      at_role.place_at.ensures,
-      at_role.term_at-2.ensures,
-      at_role.term_at.ensures,
-      word_at_byte start.args.s.now 20 (omega (arith, start.requires)),
+      c.place_at-3.ensures,
+      c.place_at-2.ensures,
+      c.place_at.ensures,
+      c.term_at-2.ensures,
+      c.term_at.ensures,
+      word_at_byte c.args.s.now 20 (omega (arith, c.requires)),
     )

@@ -3,6 +3,4 @@ use Rattle.rows.proofs.PartLaws.{part_seven}
 use Rattle.head.proofs.voters_at.Goals as goal
 
 pub returns : goal.returns
-returns c =
-    let start = c in
-    rw (part_seven start.args.s.now start.args.at start.requires)
+returns c = rw (part_seven c.args.s.now c.args.at c.requires)

@@ -7,20 +7,11 @@ use Rattle.head.proofs.write_head.Goals as goal
 
 -- The bytes of the hubs end with the head.
 pub put_hubs-requires : goal.put_hubs-requires
-put_hubs-requires c =
-    let numbers = c in
-    let start = numbers in
-    omega (arith, length-set numbers.put_numbers.new.0 20 start.args.h.role, numbers.put_numbers.auto, start.requires)
+put_hubs-requires c = omega (arith, length-set c.put_numbers.new.s 20 c.args.h.role, c.put_numbers.auto, c.requires)
 
 -- No write changes the length.
 pub shape_of-s : goal.shape_of-s
-shape_of-s c =
-    let at-numbers = c in
-    let start = at-numbers in
-    omega (arith, c.put_hubs.auto, length-set at-numbers.put_numbers.new.0 20 start.args.h.role, at-numbers.put_numbers.auto)
+shape_of-s c = omega (arith, c.put_hubs.auto, length-set c.put_numbers.new.s 20 c.args.h.role, c.put_numbers.auto)
 
 pub returns : goal.returns
-returns c =
-    let at-numbers = c in
-    let start = at-numbers in
-    head_written start.args.h start.args.s.now at-numbers.put_numbers.ensures refl c.put_hubs.ensures
+returns c = head_written c.args.h c.args.s.now c.put_numbers.ensures refl c.put_hubs.ensures

@@ -14,9 +14,8 @@ use Rattle.lengths.proofs.none_above.Goals as goal
 -- A greater length.
 pub returns-then-below : goal.returns-then-below
 returns-then-below c =
-    let start = c in
-    let ps = start.args.ps in
-    let n = start.args.n.0 in
+    let ps = c.args.ps in
+    let n = c.args.n.0 in
     let at-loop = c.loop-i in
     let long : length ps ≡ 7 = search rules in
     sym
@@ -27,9 +26,8 @@ returns-then-below c =
 -- None here.
 pub loop-i-preserved : goal.loop-i-preserved
 loop-i-preserved c =
-    let start = c in
-    let ps = start.args.ps in
-    let n = start.args.n.0 in
+    let ps = c.args.ps in
+    let n = c.args.n.0 in
     let at-loop = c.loop-i in
     let long : length ps ≡ 7 = search rules in
     at-loop.invariant
@@ -39,7 +37,6 @@ loop-i-preserved c =
 -- All are passed.
 pub returns : goal.returns
 returns c =
-    let start = c in
-    let ps = start.args.ps in
+    let ps = c.args.ps in
     let long : length ps ≡ 7 = search rules in
-    sym (c.loop-i.invariant ∙ all_ends (λ (p : Place). leb p.0 start.args.n.0) ps c.loop-i.i (omega arith))
+    sym (c.loop-i.invariant ∙ all_ends (λ (p : Place). leb p.0 c.args.n.0) ps c.loop-i.i (omega arith))

@@ -7,6 +7,4 @@ use Rattle.voters.proofs.are_flags.Goals as goal
 
 pub returns : goal.returns
 unfolding all is_flag
-returns c =
-    let start = c in
-    rw (part_seven start.args.s.now start.args.at start.requires, and_alone)
+returns c = rw (part_seven c.args.s.now c.args.at c.requires, and_alone)

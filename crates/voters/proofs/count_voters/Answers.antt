@@ -2,11 +2,11 @@
 -- The measure is what is left of the seven. Assumes nothing.
 use mathlib.Core.Path.{◌≡◌}
 use mathlib.Core.Bool.{true, false}
-use mathlib.Core.Logic.{⊎_elim}
 use native.Mathlib.Omega.{arith}
 use lib.ListN.{length}
 use borrow.Author.Rules.{rules}
 use Rattle.state.proofs.LegalLaws.{count_goes, count_ends}
+use Rattle.voters.proofs.count_voters.Goals.{then-vs-i, else-vs-i}
 use Rattle.voters.proofs.count_voters.Goals as goal
 
 -- A voter is counted, another hub is passed.
@@ -15,10 +15,10 @@ loop-i-preserved c =
     let vs = c.args.vs in
     let i = c.loop-i.i in
     let long : length vs ≡ 7 = search rules in
-    ⊎_elim
-    (λ w. omega (arith, count_goes vs i true (omega arith) w.0.taken))
-    (λ w. omega (arith, count_goes vs i false (omega arith) w.0.left))
-    c.if-vs-i.branch
+    elim c.if-vs-i.branch [
+      | then-vs-i w ↦ omega (arith, count_goes vs i true (omega arith) w.if-vs-i.true)
+      | else-vs-i w ↦ omega (arith, count_goes vs i false (omega arith) w.if-vs-i.false)
+    ]
 
 -- All are passed.
 pub returns : goal.returns
