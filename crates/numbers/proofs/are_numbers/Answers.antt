@@ -22,8 +22,7 @@ returns-then-own-i c =
 
 -- It is the same.
 pub loop-i-preserved : goal.loop-i-preserved
-loop-i-preserved c =
-    alike_again c.loop-i.invariant c.loop-i-test.true c.if-own-i.false
+loop-i-preserved c = alike_again c.loop-i.invariant c.loop-i-test.true c.if-own-i.false
 
 -- All are the same.
 pub returns : goal.returns

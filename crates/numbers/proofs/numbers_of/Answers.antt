@@ -10,8 +10,7 @@ returns-in-VoteYes c =
     rw (c.in-VoteYes.is, c.number-term.ensures, c.number-from.ensures, c.number-to.ensures, c.number-in-VoteYes.ensures, c.number-in-VoteYes-2.ensures)
 
 pub returns-in-VoteNo : goal.returns-in-VoteNo
-returns-in-VoteNo c =
-    rw (c.in-VoteNo.is, c.number-term.ensures, c.number-from.ensures, c.number-to.ensures)
+returns-in-VoteNo c = rw (c.in-VoteNo.is, c.number-term.ensures, c.number-from.ensures, c.number-to.ensures)
 
 pub returns-in-Append : goal.returns-in-Append
 returns-in-Append c =

@@ -8,13 +8,11 @@ use Rattle.tested.proofs.is_legal.Goals as goal
 
 -- The rows of a vote-yes are there.
 pub is_yes-requires : goal.is_yes-requires
-is_yes-requires c =
-    rows_there c.args.f c.args.rows.now c.in-VoteYes.is c.requires
+is_yes-requires c = rows_there c.args.f c.args.rows.now c.in-VoteYes.is c.requires
 
 -- And those of an append.
 pub is_append-requires : goal.is_append-requires
-is_append-requires c =
-    rows_there c.args.f c.args.rows.now c.in-Append.is c.requires
+is_append-requires c = rows_there c.args.f c.args.rows.now c.in-Append.is c.requires
 
 -- A vote-request.
 pub returns-in-VoteRequest : goal.returns-in-VoteRequest

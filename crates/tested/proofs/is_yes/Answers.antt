@@ -6,5 +6,4 @@ use Rattle.tested.proofs.is_yes.Goals as goal
 
 pub returns : goal.returns
 unfolding legal_body
-returns c =
-    cc (rows_in_length entry_of c.args.count c.args.rows.now)
+returns c = cc (rows_in_length entry_of c.args.count c.args.rows.now)
