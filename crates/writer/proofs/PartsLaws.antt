@@ -52,7 +52,8 @@ unfolding own_text own_fields lines_text
 request_lines last ballot p q = rw (p, q) (simp append-nil)
 
 -- A vote-yes's own: those of a vote-request, and the count.
-pub yes_lines : (last : Place) (ballot : Term) (count : ℕ) → Joins (own_text (VoteYes last ballot count)) (own_text (VoteRequest last ballot)) (line_text (ascii "count=") count)
+pub yes_lines : (last : Place) (ballot : Term) (count : ℕ)
+    → Joins (own_text (VoteYes last ballot count)) (own_text (VoteRequest last ballot)) (line_text (ascii "count=") count)
 unfolding own_text own_fields lines_text
 yes_lines last ballot count = record { is = simp (append_assoc, append-nil) }
 
@@ -87,7 +88,8 @@ unfolding text
 text_of f es h = rw (type_of_said f.body es, numbers_message_by f es h, entries_of_said f.body es h)
 
 -- A type's own lines have nothing to do with term, from and to.
-own_lines : (t : MessageType) (term from to : ℕ) (own : List ℕ) → lines_text (own_fields t) (term ∷ from ∷ to ∷ own) ≡ lines_text (own_fields t) (0 ∷ 0 ∷ 0 ∷ own)
+own_lines : (t : MessageType) (term from to : ℕ) (own : List ℕ)
+    → lines_text (own_fields t) (term ∷ from ∷ to ∷ own) ≡ lines_text (own_fields t) (0 ∷ 0 ∷ 0 ∷ own)
 unfolding own_fields lines_text
 own_lines type=vote_request term from to own = refl
 own_lines type=vote_yes term from to own = refl

@@ -12,27 +12,19 @@ use Rattle.numbers.proofs.are_numbers.Goals as goal
 -- At first none was compared.
 pub loop-i-init : goal.loop-i-init
 loop-i-init c =
-    let start = c in
-    alike_first c.numbers_of-own.result start.args.numbers.now (ap length c.numbers_of-own.ensures ∙ numbers_eight start.args.f) start.requires
+    alike_first c.numbers_of-own.result c.args.numbers.now (ap length c.numbers_of-own.ensures ∙ numbers_eight c.args.f) c.requires
 
 -- A number is another.
 pub returns-then-own-i : goal.returns-then-own-i
 returns-then-own-i c =
-    let at_test = c in
-    let at-loop = at_test in
-    let start = at-loop in
-    alike_not at-loop.loop-i.invariant at_test.loop-i-test.true c.if-own-i.true
-    ∙ ap (λ (l : List ℕ). same l start.args.numbers.now) at-loop.numbers_of-own.ensures
+    alike_not c.loop-i.invariant c.loop-i-test.true c.if-own-i.true
+    ∙ ap (λ (l : List ℕ). same l c.args.numbers.now) c.numbers_of-own.ensures
 
 -- It is the same.
 pub loop-i-preserved : goal.loop-i-preserved
-loop-i-preserved c =
-    let at_test = c in
-    alike_again at_test.loop-i.invariant at_test.loop-i-test.true c.if-own-i.false
+loop-i-preserved c = alike_again c.loop-i.invariant c.loop-i-test.true c.if-own-i.false
 
 -- All are the same.
 pub returns : goal.returns
 returns c =
-    let at-loop = c in
-    let start = at-loop in
-    alike_all at-loop.loop-i.invariant (omega arith) ∙ ap (λ (l : List ℕ). same l start.args.numbers.now) at-loop.numbers_of-own.ensures
+    alike_all c.loop-i.invariant (omega arith) ∙ ap (λ (l : List ℕ). same l c.args.numbers.now) c.numbers_of-own.ensures

@@ -5,5 +5,4 @@ use Rattle.numbers.proofs.put_numbers.Goals as goal
 
 pub returns : goal.returns
 returns c =
-    let args = c.args in
-    rw c.numbers_of-own.ensures (eight_put args.numbers.now (numbers_in args.f) (numbers_eight args.f))
+    rw c.numbers_of-own.ensures (eight_put c.args.numbers.now (numbers_in c.args.f) (numbers_eight c.args.f))

@@ -5,4 +5,4 @@ use Rattle.tested.proofs.are_legal.Goals as goal
 
 -- The rows decide.
 pub returns : goal.returns
-returns c = let start = c.args in c.are_legal.ensures ∙ entries_held start.low start.high start.count start.rows.now
+returns c = c.are_legal.ensures ∙ entries_held c.args.low c.args.high c.args.count c.args.rows.now

@@ -6,6 +6,4 @@ use Rattle.tested.proofs.is_yes.Goals as goal
 
 pub returns : goal.returns
 unfolding legal_body
-returns c =
-    let start = c in
-    cc (rows_in_length entry_of start.args.count start.args.rows.now)
+returns c = cc (rows_in_length entry_of c.args.count c.args.rows.now)
