@@ -9,5 +9,4 @@ returns-then-held-below c = row_stays _ _ _ _ _ c.get32.ensures c.of-there.ensur
 -- It is written.
 pub returns : goal.returns
 returns c =
-    let at-if = c in
-    row_put _ _ _ _ _ at-if.get32.ensures at-if.of-there.ensures at-if.below.ensures at-if.if-held-below.false c.put_row.ensures
+    row_put _ _ _ _ _ c.get32.ensures c.of-there.ensures c.below.ensures c.if-held-below.false c.put_row.ensures
