@@ -48,7 +48,8 @@ module _ (l : List ℕ) (o : Bytes l) (h : is_some (read_kept l) ≡ true) where
 
   -- Zeros behind the log, and a follower's head.
   restart_written :
-      sets (sets l (head_size + (head_in l).length.0 * row_size) (replicate (length l - (head_size + (head_in l).length.0 * row_size)) 0)) 0 (bytes_of_head (following (head_in l) (head_in l).term))
+      sets (sets l (head_size + (head_in l).length.0 * row_size) (replicate (length l - (head_size + (head_in l).length.0 * row_size)) 0)) 0
+      (bytes_of_head (following (head_in l) (head_in l).term))
       ≡ image (restart (kept_in l)).state
   unfolding restart state_size
   restart_written =
