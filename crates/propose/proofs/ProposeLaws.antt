@@ -42,14 +42,16 @@ refused_quiet s l k e h =
 -- ---- outcomes
 
 -- No leader.
-propose_role : (w : Who) (k : Kept) (l : Lost) (p : Option Command) → (let s : State = record { kept = k; lost = l } in (role_of l ≡ as_leader → ⊥) → propose w s p ≡ refuses s wrong_role)
+propose_role : (w : Who) (k : Kept) (l : Lost) (p : Option Command)
+    → (let s : State = record { kept = k; lost = l } in (role_of l ≡ as_leader → ⊥) → propose w s p ≡ refuses s wrong_role)
 unfolding propose role_of
 propose_role w k follower p h = refl
 propose_role w k (candidate voters gathered) p h = refl
 propose_role w k (leader confirmed) p h = absurd (h refl)
 
 -- A leader.
-propose_leads : (w : Who) (k : Kept) (l : Lost) (p : Option Command) → (let s : State = record { kept = k; lost = l } in role_of l ≡ as_leader → propose w s p ≡ propose_leading w s (confirmed_of l) p)
+propose_leads : (w : Who) (k : Kept) (l : Lost) (p : Option Command)
+    → (let s : State = record { kept = k; lost = l } in role_of l ≡ as_leader → propose w s p ≡ propose_leading w s (confirmed_of l) p)
 unfolding propose role_of confirmed_of
 propose_leads w k follower p h = absurd (omega arith)
 propose_leads w k (candidate voters gathered) p h = absurd (omega arith)
@@ -95,10 +97,14 @@ grown_rows w k c (candidate voters gathered) h = absurd (omega arith)
 grown_rows w k c (leader confirmed) h =
     let rows : List Row = map entry_row k.log in
     let n = length-map k.log entry_row in
-    rw (append-nil rows, append-nil (map entry_row (k.log ++ (record { term = k.term; command = c } ∷ []))))
-    (n, rw (take_all (length k.log) rows (omega arith), drop_of_length-le rows {i = length k.log + 1} (omega arith)) (map-append entry_row k.log (record { term = k.term; command = c } ∷ [])))
+    rw (append-nil rows, append-nil (map entry_row (k.log ++ (record { term = k.term; command = c } ∷ [])))) (
+      n,
+      rw (take_all (length k.log) rows (omega arith), drop_of_length-le rows {i = length k.log + 1} (omega arith))
+          (map-append entry_row k.log (record { term = k.term; command = c } ∷ [])),
+    )
 
-grown_is : (w : Who) (k : Kept) (c : Command) (l : Lost) → role_of l ≡ as_leader → (let t = leads w (with_entry k c) (confirmed_of l) in grown (head_of k l) w.own ≡ head_of t.kept t.lost)
+grown_is : (w : Who) (k : Kept) (c : Command) (l : Lost) → role_of l ≡ as_leader
+    → (let t = leads w (with_entry k c) (confirmed_of l) in grown (head_of k l) w.own ≡ head_of t.kept t.lost)
 unfolding role_of confirmed_of
 grown_is w k c follower h = absurd (omega arith)
 grown_is w k c (candidate voters gathered) h = absurd (omega arith)
@@ -114,24 +120,28 @@ module _ (w : Who) (l : List ℕ) (r : Ready w l) where
     long : h.length.0 ≡ length (state_in l).kept.log
     long = ap (λ (x : Head). x.length.0) e ∙ ready_length w l r
 
-    leading : h.role ≡ as_leader → propose w (state_in l) (read_proposal bytes) ≡ propose_leading w (state_in l) (confirmed_of (state_in l).lost) (read_proposal bytes)
+    leading : h.role ≡ as_leader
+        → propose w (state_in l) (read_proposal bytes) ≡ propose_leading w (state_in l) (confirmed_of (state_in l).lost) (read_proposal bytes)
     leading role = propose_leads w (state_in l).kept (state_in l).lost (read_proposal bytes) (sym here ∙ role)
 
     -- Outcome 8.
     pub proposed_wrong_role : (h.role ≡ as_leader → ⊥) → Quiet (propose w (state_in l) (read_proposal bytes)) l wrong_role l
     proposed_wrong_role role =
-        refused_quiet (state_in l) l wrong_role (propose_role w (state_in l).kept (state_in l).lost (read_proposal bytes) (λ f. role (here ∙ f))) (λ z. omega arith)
+        refused_quiet (state_in l) l wrong_role (propose_role w (state_in l).kept (state_in l).lost (read_proposal bytes) (λ f. role (here ∙ f)))
+        (λ z. omega arith)
 
     -- Outcome 10.
     pub proposed_bad : h.role ≡ as_leader → is_proposal bytes ≡ false → Quiet (propose w (state_in l) (read_proposal bytes)) l bad_command l
     proposed_bad role bad =
-        refused_quiet (state_in l) l bad_command (leading role ∙ rw (read_proposal_none bytes bad) (leading_bad w (state_in l) (confirmed_of (state_in l).lost))) (λ z. omega arith)
+        refused_quiet (state_in l) l bad_command
+        (leading role ∙ rw (read_proposal_none bytes bad) (leading_bad w (state_in l) (confirmed_of (state_in l).lost))) (λ z. omega arith)
 
     -- Outcome 11.
     pub proposed_full : h.role ≡ as_leader → is_proposal bytes ≡ true → limit ≤ h.length.0 → Quiet (propose w (state_in l) (read_proposal bytes)) l log_full l
     proposed_full role proposal full =
         refused_quiet (state_in l) l log_full
-        (leading role ∙ rw (read_proposal_some bytes proposal) (leading_full w (state_in l) (confirmed_of (state_in l).lost) (command_of bytes) (omega (arith, long))))
+        (leading role ∙ rw (read_proposal_some bytes proposal)
+        (leading_full w (state_in l) (confirmed_of (state_in l).lost) (command_of bytes) (omega (arith, long))))
         (λ z. omega arith)
 
     -- Outcome 0.
@@ -145,9 +155,11 @@ module _ (w : Who) (l : List ℕ) (r : Ready w l) where
         leading role ∙ rw (read_proposal_some bytes proposal) (leading_done w s (confirmed_of s.lost) (command_of bytes) (omega (arith, long))) in
         done_quiet t l _ p (left ∙ ap (λ (n : Next). image n.state) p)
 
-  module _ (bytes : List ℕ) (o : Bytes bytes) (proposal : is_proposal bytes ≡ true) (role : (head_in l).role ≡ as_leader) (room : (head_in l).length.0 < limit) where
+  module _ (bytes : List ℕ) (o : Bytes bytes) (proposal : is_proposal bytes ≡ true) (role : (head_in l).role ≡ as_leader)
+      (room : (head_in l).length.0 < limit) where
     -- What is proposed there.
-    proposed_is : propose w (state_in l) (read_proposal bytes) ≡ goes (leads w (with_entry (state_in l).kept (command_of bytes)) (confirmed_of (state_in l).lost)) none
+    proposed_is : propose w (state_in l) (read_proposal bytes)
+        ≡ goes (leads w (with_entry (state_in l).kept (command_of bytes)) (confirmed_of (state_in l).lost)) none
     proposed_is =
         let s = state_in l in
         ap (propose w s) (read_proposal_some bytes proposal)
@@ -155,7 +167,8 @@ module _ (w : Who) (l : List ℕ) (r : Ready w l) where
         ∙ leading_done w s (confirmed_of s.lost) (command_of bytes) (omega (arith, ready_length w l r))
 
     -- The words written are the entry's row.
-    row_is : row_words (head_in l).term.0 (words_at 0 bytes) ≡ bytes_of row_bytes (entry_row (record { term = (state_in l).kept.term; command = command_of bytes }) ∷ [])
+    row_is : row_words (head_in l).term.0 (words_at 0 bytes) ≡ bytes_of row_bytes
+        (entry_row (record { term = (state_in l).kept.term; command = command_of bytes }) ∷ [])
     unfolding bytes_of words_at
     row_is =
         let sixteen = is_proposal_length bytes proposal in
@@ -165,7 +178,8 @@ module _ (w : Who) (l : List ℕ) (r : Ready w l) where
 
     -- A row behind the log, and the head of a leader with one entry more.
     propose_written :
-        sets (sets l (head_size + (head_in l).length.0 * row_size) (row_words (head_in l).term.0 (words_at 0 bytes))) 0 (bytes_of_head (grown (head_in l) w.own))
+        sets (sets l (head_size + (head_in l).length.0 * row_size) (row_words (head_in l).term.0 (words_at 0 bytes))) 0
+        (bytes_of_head (grown (head_in l) w.own))
         ≡ image (propose w (state_in l) (read_proposal bytes)).state
     unfolding happens legal_at
     propose_written =
@@ -178,7 +192,13 @@ module _ (w : Who) (l : List ℕ) (r : Ready w l) where
         ap (λ (n : Next). legal_state w n.state) (sym proposed_is)
         ∙ next_is_legal w s (to_propose bytes) (record { size = r.size; own = r.own; legal = ready_legal w l r }) in
         let rows = grown_rows w s.kept c s.lost role in
-        rw (ap (λ (h : Head). grown h w.own) (ready_head w l r), grown_is w s.kept c s.lost role, row_is, ready_length w l r, ap (λ (n : Next). n.state) proposed_is)
+        rw (
+          ap (λ (h : Head). grown h w.own) (ready_head w l r),
+          grown_is w s.kept c s.lost role,
+          row_is,
+          ready_length w l r,
+          ap (λ (n : Next). n.state) proposed_is,
+        )
         (ready_put w l r t next (length s.kept.log) new (omega (arith, rows.0)) (omega (arith, ready_length w l r)) rows.1)
 
     -- The same, write by write.

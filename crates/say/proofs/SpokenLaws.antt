@@ -61,7 +61,8 @@ unfolding state_in kept_in
 log_after l p =
     let n = word_at 12 4 l in
     let table = drop head_size l in
-    let long : length (drop p (rows_in entry_of n table)) ≡ n - p = length-drop p (rows_in entry_of n table) ∙ ap (λ (m : ℕ). m - p) (rows_in_length entry_of n table) in
+    let long : length (drop p (rows_in entry_of n table)) ≡ n - p = length-drop p (rows_in entry_of n table)
+    ∙ ap (λ (m : ℕ). m - p) (rows_in_length entry_of n table) in
     rw long
     (ap (rows_in entry_of (n - p)) (sym (drop-drop (p * row_size) head_size l)) ∙ sym (rows_in_drop entry_of p n table))
 

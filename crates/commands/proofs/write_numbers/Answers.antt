@@ -10,11 +10,15 @@ returns-then-out-lt-SIZE c = command_written_short _ _ c.if-out-lt-SIZE.true
 
 -- A duration below zero.
 pub returns-then-duration-lt0 : goal.returns-then-duration-lt0
-returns-then-duration-lt0 c = command_written_illegal _ _ c.if-out-lt-SIZE.false (negative_illegal _ _ _ _ c.args.duration c.ranges.duration c.if-duration-lt0.true)
+returns-then-duration-lt0 c =
+    command_written_illegal _ _ c.if-out-lt-SIZE.false
+    (negative_illegal _ _ _ _ c.args.duration c.ranges.duration c.if-duration-lt0.true)
 
 -- Any other illegal command.
 pub returns-then-not-is_legal : goal.returns-then-not-is_legal
-returns-then-not-is_legal c = command_written_illegal _ _ c.if-out-lt-SIZE.false (ap legal_command (sym (of_numbers_with _ _ _ _ _ c.args.duration c.ranges.duration c.unsigned_of.ensures)) ∙ sym c.is_legal.ensures ∙ c.if-not-is_legal.true)
+returns-then-not-is_legal c =
+    let same = of_numbers_with _ _ _ _ _ c.args.duration c.ranges.duration c.unsigned_of.ensures in
+    command_written_illegal _ _ c.if-out-lt-SIZE.false (ap legal_command (sym same) ∙ sym c.is_legal.ensures ∙ c.if-not-is_legal.true)
 
 -- A legal command.
 pub returns : goal.returns

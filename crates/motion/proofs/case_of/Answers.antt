@@ -18,4 +18,6 @@ returns-in-1 c = rw c.in-1.is (ap Buzz c.gain_of.ensures)
 
 -- Any other kind.
 pub returns-in_default : goal.returns-in_default
-returns-in_default c = (λ i. Ramp (c.gain_of-in_default.ensures i) (c.gain_of-in_default-2.ensures i)) ∙ sym (case_of_ramp c.args.kind c.args.a c.args.b (omega arith))
+returns-in_default c =
+    (λ i. Ramp (c.gain_of-in_default.ensures i) (c.gain_of-in_default-2.ensures i))
+    ∙ sym (case_of_ramp c.args.kind c.args.a c.args.b (omega arith))

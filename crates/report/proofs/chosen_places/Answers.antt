@@ -1,0 +1,28 @@
+-- `report::chosen_places` meets its contract. Assumes nothing.
+use Prim.Native.Nat.{ℕ}
+use mathlib.Core.Path.{sym, ◌∙◌, ap}
+use native.Mathlib.Omega.{arith}
+use Rattle.state.specs.declared.Head.{Head}
+use Rattle.state.specs.Image.{state_size}
+use Rattle.promise.proofs.LostLaws.{kept_size}
+use Rattle.report.proofs.ReportLaws.{chosen_bad, chosen_counted}
+use Rattle.kinds.specs.Packed.{packed}
+use Rattle.kinds.specs.Outcome.{done}
+use Rattle.report.proofs.chosen_places.Goals as goal
+
+-- Kept parts that are not legal.
+pub returns-then-not-is_kept_legal : goal.returns-then-not-is_kept_legal
+returns-then-not-is_kept_legal c = sym (chosen_bad _ (sym c.is_kept_legal.ensures ∙ c.if-not-is_kept_legal.true))
+
+-- There is a head.
+pub read_head-h-requires : goal.read_head-h-requires
+unfolding state_size
+read_head-h-requires c =
+    let legal = sym c.is_kept_legal.ensures ∙ c.if-not-is_kept_legal.false in
+    omega (arith, kept_size c.args.state.now (λ i. (c.type_inv.state i).fits) legal)
+
+-- The head's count.
+pub returns : goal.returns
+returns c =
+    c.packed.ensures ∙ ap (λ (n : ℕ). packed done n) (c.number.ensures ∙ ap (λ (h : Head). h.chosen.0) c.read_head-h.ensures)
+    ∙ sym (chosen_counted _ (sym c.is_kept_legal.ensures ∙ c.if-not-is_kept_legal.false))
