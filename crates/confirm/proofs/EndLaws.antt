@@ -47,7 +47,9 @@ module _ (w : Who) (k : Kept) (from end : ℕ) where
   end_other (leader confirmed) h = absurd (h refl)
 
   -- Not greater than recorded.
-  end_known : (l : Lost) → role_of l ≡ as_leader → ltb (get_or (confirmed_of l) (from - 1) 0) end ≡ false → heard_end w (record { kept = k; lost = l }) from end ≡ idle
+  end_known :
+      (l : Lost) → role_of l ≡ as_leader → ltb (get_or (confirmed_of l) (from - 1) 0) end ≡ false
+      → heard_end w (record { kept = k; lost = l }) from end ≡ idle
   unfolding heard_end role_of confirmed_of
   end_known follower h e = refl
   end_known (candidate voters gathered) h e = refl
@@ -66,7 +68,9 @@ module _ (w : Who) (k : Kept) (from end : ℕ) where
   recorded_head :
       (l : Lost) → role_of l ≡ 2
       → (let t = recorded w k (set (confirmed_of l) (from - 1) end) in
-      (confirming (head_of k l) from (place end) (place (max k.chosen (majority_place w.size (place_numbers (set (map place (confirmed_of l)) (from - 1) (place end)))))) ≡ head_of t.kept t.lost)
+      (confirming (head_of k l) from (place end)
+      (place (max k.chosen (majority_place w.size (place_numbers (set (map place (confirmed_of l)) (from - 1) (place end))))))
+      ≡ head_of t.kept t.lost)
       × (rows_of t ≡ rows_of (record { kept = k; lost = l })))
   unfolding recorded confirming head_of rows_of role_of voters_of gathered_of confirmed_of
   recorded_head follower h = absurd (omega arith)
@@ -97,7 +101,9 @@ module _ (w : Who) (l : List ℕ) (from end : ℕ) (hears : HearsEnd w l from en
   heard_other role = idle_ruled l (end_other w (state_in l).kept from end (state_in l).lost (λ f. role (role_is ∙ f)))
 
   -- The code's test: whether the end is greater than recorded.
-  more_test : {p : Place} {b : Bool} → p ≡ get_or h.confirmed (from - 1) (place 0) → b ≡ ltb p.0 end → ltb (get_or (confirmed_of (state_in l).lost) (from - 1) 0) end ≡ b
+  more_test :
+      {p : Place} {b : Bool} → p ≡ get_or h.confirmed (from - 1) (place 0) → b ≡ ltb p.0 end
+      → ltb (get_or (confirmed_of (state_in l).lost) (from - 1) 0) end ≡ b
   more_test ep eb = ap (λ (x : ℕ). ltb x end) (sym (ap (λ (q : Place). q.0) ep ∙ recorded_is)) ∙ sym eb
 
   -- Nothing new.

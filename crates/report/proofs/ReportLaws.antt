@@ -107,14 +107,15 @@ module _ (l out : List ℕ) (p : ℕ) where
 
       -- Its words are written at the start of the output.
       pub reported_done :
-          {from at : ℕ} {c : Words} {out' : List ℕ} → from ≡ head_size + (p - 1) * row_size → at ≡ from + 4 → c ≡ words_at at l → out' ≡ sets out 0 (words_bytes c)
-          → IsReport (report_of l p out) done out'
+          {from at : ℕ} {c : Words} {out' : List ℕ} → from ≡ head_size + (p - 1) * row_size → at ≡ from + 4 → c ≡ words_at at l
+          → out' ≡ sets out 0 (words_bytes c) → IsReport (report_of l p out) done out'
       unfolding told
       reported_done {c = c} efrom eat ec ew =
           let at = head_size + (p - 1) * row_size + 4 in
           let command = command_of (part at command_size l) in
           let words : words_bytes c ≡ command_bytes command =
-          rw (ec, eat, efrom) (sym (command_words (words_at at l) (duration_below at l o reported_inside)) ∙ ap command_bytes (command_in_at at l o reported_inside)) in
+          rw (ec, eat, efrom)
+          (sym (command_words (words_at at l) (duration_below at l o reported_inside)) ∙ ap command_bytes (command_in_at at l o reported_inside)) in
           let sixteen = command_bytes_length command in
           let laid : sets out 0 (command_bytes command) ≡ command_bytes command ++ drop command_size out =
           sets-eq (command_bytes command) out 0 (omega arith) ∙ rw sixteen in

@@ -11,7 +11,8 @@ use Rattle.state.specs.Head.{voters_in}
 
 -- Itself among them, less than a majority, none above N.
 pub voters_test :
-    (w : Who) (vs : List Bool) {own none_above : Bool} {n : ℕ} → own ≡ get_or vs (w.own - 1) false → n ≡ count (λ v. v) vs → none_above ≡ all not (drop w.size vs)
+    (w : Who) (vs : List Bool) {own none_above : Bool} {n : ℕ} → own ≡ get_or vs (w.own - 1) false → n ≡ count (λ v. v) vs
+    → none_above ≡ all not (drop w.size vs)
     → (own && (ltb n (majority w.size) && none_above)) ≡ voters_in w vs
 unfolding voters_in
 voters_test w vs own_is n_is none_is = rw (own_is, n_is, none_is)

@@ -10,7 +10,8 @@ use Rattle.majority.proofs.is_confirmed.Given as goal
 
 abbrev pub invariant-loop-i : goal.invariant-loop-i
 invariant-loop-i l =
-    (l.found ≤ l.i) × (l.i ≤ l.n) × (l.found + count (leb l.p.0) (drop l.i (take l.n (place_numbers l.confirmed))) ≡ count (leb l.p.0) (take l.n (place_numbers l.confirmed)))
+    (l.found ≤ l.i) × (l.i ≤ l.n)
+    × (l.found + count (leb l.p.0) (drop l.i (take l.n (place_numbers l.confirmed))) ≡ count (leb l.p.0) (take l.n (place_numbers l.confirmed)))
 
 abbrev pub decreases-loop-i : goal.decreases-loop-i
 decreases-loop-i l = l.n - l.i
