@@ -1,6 +1,6 @@
 -- Laws of what C is told of a message that it has written by its numbers: one for each way through the code; no second answer meets the promise;
 -- every message's numbers are taken as its fields; and what is written is read back as the same numbers. Assumes nothing.
-use Prim.Native.Nat.{ℕ, ◌+◌, ◌≤◌, ◌<◌}
+use Prim.Native.Nat.{ℕ, ◌≤◌, ◌<◌}
 use native.Mathlib.Omega.{arith}
 use mathlib.Core.Path.{◌≡◌, refl, sym, ◌∙◌, ap}
 use mathlib.Core.Bool.{Bool, true, false}

@@ -41,7 +41,8 @@ pub term_at_none : (log : List Entry) {p : ℕ} → p ≡ 0 → term_at log p �
 unfolding term_at
 term_at_none log e = rw e
 
-module _ (w : Who) (h : Head) (l : List ℕ) (peer prev : ℕ) (out : List ℕ) (a : Sending w h l peer prev out) {t : Term} (known : t ≡ term (term_at (state_in l).kept.log prev)) where
+module _ (w : Who) (h : Head) (l : List ℕ) (peer prev : ℕ) (out : List ℕ) (a : Sending w h l peer prev out) {t : Term}
+    (known : t ≡ term (term_at (state_in l).kept.log prev)) where
   sent : says w (state_in l) peer (append prev t.0 h.chosen.0 (drop prev (state_in l).kept.log)) ≡ sends w (state_in l) peer prev
   unfolding sends
   sent = rw (known, ap (λ (x : Head). x.chosen.0) a.tested.head ∙ ready_chosen w l a.tested.ready)
@@ -91,7 +92,8 @@ module _ (w : Who) (h : Head) (l : List ℕ) (t : Tested w h l) (peer prev : ℕ
       sends_legal : legal_message (sends w (state_in l) peer prev) ≡ true
       sends_legal =
           let s = state_in l in
-          let fair : Fair w s (goes s (some (sends w s peer prev))) = rw send_is at (send_fair w (ready_who w l t.ready) s.kept s.lost peer prev (ready_legal w l t.ready)) in
+          let fair : Fair w s (goes s (some (sends w s peer prev))) = rw send_is at
+          (send_fair w (ready_who w l t.ready) s.kept s.lost peer prev (ready_legal w l t.ready)) in
           (fair.sound.writes (sends w s peer prev) refl).legal
 
       -- The append may be written.
