@@ -4,9 +4,8 @@ use mathlib.Core.Path.{◌≡◌, refl}
 use mathlib.Core.Bool.{Bool, true, false, ◌&&◌}
 use mathlib.Core.List.{List, [], ◌∷◌}
 use mathlib.Core.Option.{Option, none, some}
-use lib.ListN.{length}
 use Rattle.kinds.proofs.BoolLaws.{and_first, and_second}
-use Rattle.kinds.specs.Sizes.{between, Who, is_size, is_hub, text_room}
+use Rattle.kinds.specs.Sizes.{between, Who, is_size, is_hub}
 use Rattle.kinds.specs.Event.{restart_number}
 use Rattle.state.specs.State.{State}
 use Rattle.state.specs.Legal.{all}

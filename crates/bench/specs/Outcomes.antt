@@ -1,36 +1,15 @@
 -- An example of every row of the table of outcomes (rule R32), of both stale replies (R34), and of the four shortcuts that break a home (R40).
 -- The case of a row is the outcome that it is an example of. Assumes nothing.
-use Rattle.std.specs.Prelude.{ℕ, ◌≤◌, Bool, true, false, List, [], ◌∷◌, ◌++◌, ◌≡◌, pos, negsuc, length, replicate, drop}
+use Rattle.std.specs.Prelude.{ℕ, ◌≤◌, true, false, List, [], ◌∷◌, ◌++◌, ◌≡◌, pos, negsuc, length, replicate, drop}
 use Rattle.kinds.specs.Event.{start_number, restart_number}
 use Rattle.kinds.specs.Outcome.{done, bad_state}
 use Rattle.kinds.specs.Sizes.{text_room}
 use Rattle.text.specs.Ascii.{ascii}
-use Rattle.state.specs.State.{State, Pair, fresh}
+use Rattle.state.specs.State.{State, fresh}
 use Rattle.state.specs.Image.{image}
 use Rattle.rules.specs.Row.{CaseRow, AllHold}
 use Rattle.rules.specs.Step.{Call, refusal, step_of}
-use Rattle.rules.specs.Samples.{
-  buzz,
-  buzzing,
-  buzz_bytes,
-  ms250,
-  half_gain,
-  buzz_entry,
-  kept,
-  follower_with,
-  candidate_with,
-  leader_with,
-  hub1_alone,
-  confirmed,
-  elected,
-  with_one,
-  whole_append,
-  yes_text,
-  end_text,
-  step_row,
-  does,
-  refused,
-}
+use Rattle.rules.specs.Samples.{buzz, buzzing, buzz_bytes, ms250, half_gain, buzz_entry, kept, follower_with, candidate_with, leader_with, hub1_alone, confirmed, elected, whole_append, yes_text, step_row, does, refused}
 
 -- Hub 1 stands for term 5 with one entry at ballot 1; hub 2 follows at term 5; hub 1 leads term 5 with two entries.
 abbrev pub a_candidate : State

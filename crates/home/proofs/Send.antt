@@ -16,7 +16,6 @@ use Rattle.rules.specs.Outcome.{Next}
 use Rattle.rules.specs.Events.{is_leader, len, term_at, says, sends, send}
 use Rattle.kinds.proofs.BoolLaws.{cond_either, or_second}
 use Rattle.state.proofs.LegalLaws.{IsKept}
-use Rattle.paxos.specs.Paxos.{at}
 use Rattle.paxos.proofs.Member.{clash}
 use Rattle.views.specs.Hall.{View, Hall}
 use Rattle.views.specs.Faithful.{Settled, Known, Faithful}

@@ -1,6 +1,6 @@
 -- Demand 3 of these hubs, beside what `engine` claims of any engine (`Safety`): what C is told, and what an honest hub is never told.
 -- Assumes nothing.
-use Rattle.std.specs.Prelude.{ℕ, ◌*◌, ◌≤◌, ◌≡◌, ◌↔◌, true, List, ◌++◌, length, take, drop}
+use Rattle.std.specs.Prelude.{ℕ, ◌≤◌, ◌≡◌, ◌↔◌, true, List, ◌++◌, length, take, drop}
 use Rattle.std.proofs.Math.Option.{some}
 use Rattle.kinds.specs.Sizes.{Group, is_group, hub_of}
 use Rattle.command.specs.Command.{Command, command_size, command_bytes}

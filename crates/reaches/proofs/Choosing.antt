@@ -36,7 +36,7 @@ use Rattle.reaches.specs.Reaches.{Mixed, turn, choosing, longest, Ready, NotBelo
 use Rattle.reaches.proofs.Stage.{Stage, meant, changed, Takes, Goes, ends, next}
 use Rattle.reaches.proofs.Without.{without_rest, without_length, without_other}
 use Rattle.reaches.proofs.Mixing.{Known, Half, Coming, other_acts, asker_acts, Turns, EachTurns, choosing_between, mixed}
-use Rattle.reaches.proofs.Premise.{longest_most, in_length, all_pending, me, who, legal, kept, first, apart, next_term, size, asking, place, Early, still_early, follows}
+use Rattle.reaches.proofs.Premise.{longest_most, in_length, all_pending, me, who, legal, kept, first, apart, next_term, asking, place, Early, still_early, follows}
 use Rattle.reaches.proofs.Election.{Led}
 
 module _ {G : Group} {H : HomeOfHubs} {c : ℕ} {others : List ℕ} {S : ℕ → State} (r : Ready G H c others S) (command : Command) where

@@ -26,7 +26,7 @@ use Rattle.reaches.specs.Reaches.{Mixed, turn, electing, longest, Ready, NotBelo
 use Rattle.reaches.proofs.Stage.{Stage, opening, meant, changed, Goes, next}
 use Rattle.reaches.proofs.Without.{without_rest, without_length, without_longest, without_other}
 use Rattle.reaches.proofs.Mixing.{Known, Half, Coming, other_acts, asker_acts, Turns, EachTurns, electing_between, mixed}
-use Rattle.reaches.proofs.Premise.{in_length, all_pending, me, who, kept, first, apart, size, asking, Early, still_early, follows, told, told_below}
+use Rattle.reaches.proofs.Premise.{in_length, all_pending, me, who, first, apart, size, asking, Early, still_early, follows, told, told_below}
 
 module _ {G : Group} {H : HomeOfHubs} {c : ℕ} {others : List ℕ} {S : ℕ → State} (r : Ready G H c others S)
     (b : (g : ℕ) → g ∈ others → NotBelow (S c) (S g)) where

@@ -1,6 +1,6 @@
 -- Turns for each of the others, mixed in any way. What is known of each of them goes by how many turns are left for it; what is known of the hub that
 -- asks goes by those who have any left. Assumes nothing.
-use Prim.Native.Nat.{ℕ, zero, suc, ◌+◌, ◌≤◌}
+use Prim.Native.Nat.{ℕ, zero, suc, ◌≤◌}
 use native.Mathlib.Omega.{arith}
 use native.Mathlib.Decide.{ℕ_discrete}
 use mathlib.Core.Path.{◌≡◌, refl, sym, ◌∙◌}

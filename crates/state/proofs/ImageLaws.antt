@@ -1,36 +1,34 @@
 -- Laws of the image: its parts, that a legal state is read back from it and from no other bytes, and what writes make of it. Assumes nothing.
-use Prim.Native.Nat.{ℕ, ◌+◌, ◌-◌, ◌*◌, ◌<◌}
+use Prim.Native.Nat.{ℕ, ◌+◌, ◌-◌, ◌*◌}
 use native.Mathlib.Omega.{arith}
-use native.Mathlib.Nat.{add-zero}
 use mathlib.Core.Path.{◌≡◌, refl, sym, ◌∙◌, ap}
 use mathlib.Core.Bool.{Bool, true, false, cond, ◌&&◌}
 use mathlib.Core.List.{List, [], ◌∷◌, ◌++◌, map, append_assoc}
 use mathlib.Core.Option.{none, some}
 use borrow.Author.Tests.{eqb-true, eq-eqb}
 use lib.Dec.{eqb}
-use lib.ListN.{length, drop, get_or, replicate, length-append, length-map, replicate-append-replicate}
+use lib.ListN.{length, drop, replicate, length-append, length-map, replicate-append-replicate}
 use lib.Seq.{drop_at, drop-drop}
 use Rattle.kinds.specs.declared.Place.{Place}
-use Rattle.kinds.specs.Of.{place, term}
+use Rattle.kinds.specs.Of.{place}
 use Rattle.kinds.specs.Sizes.{Who, hubs_most, limit, row_size}
-use Rattle.command.specs.Command.{command_size, command_bytes}
 use Rattle.command.specs.Words.{word, part, word_at}
 use Rattle.state.specs.declared.Head.{Head}
 use Rattle.state.specs.State.{Kept, Lost, follower, candidate, leader, State, fresh}
 use Rattle.state.specs.Legal.{all, legal_kept, legal_lost, legal_state}
-use Rattle.rows.specs.Rows.{bytes_of, rows_in, entry_of, Row, row_bytes, entry_row}
+use Rattle.rows.specs.Rows.{bytes_of, rows_in, entry_of, row_bytes, entry_row}
 use Rattle.state.specs.Image.{head_size, state_size, role_of, voters_of, gathered_of, confirmed_of, flags, log_row, gathered_row, head_bytes, image, pair_of, kept_in, words_in, lost_in, state_in, read_state, read_kept}
 use Rattle.state.specs.Head.{head_in, bytes_of_head, head_of}
 use Rattle.state.specs.Table.{pair_row, rows_of, table}
-use Rattle.kinds.proofs.BoolLaws.{and_first, and_second, and_both}
+use Rattle.kinds.proofs.BoolLaws.{and_first, and_second}
 use Rattle.rows.proofs.ListLaws.{bytes_of_append, bytes_of_map}
-use Rattle.rows.proofs.PartLaws.{drop_behind, word_at_drop, part_drop}
+use Rattle.rows.proofs.PartLaws.{drop_behind}
 use Rattle.state.proofs.HeadLaws.{bytes_of_head_length, head_in_bytes, head_bytes_is}
-use Rattle.rows.proofs.RowLaws.{row_fits, row_number, row_part_command, rows_in_bytes, rows_length, entries_back}
-use Rattle.state.proofs.TableLaws.{pairs_back, table_length, table_row}
-use Rattle.state.proofs.LegalLaws.{Held, legal_held, all_member, all_append}
+use Rattle.rows.proofs.RowLaws.{row_fits, rows_in_bytes, rows_length, entries_back}
+use Rattle.state.proofs.TableLaws.{pairs_back, table_length}
+use Rattle.state.proofs.LegalLaws.{Held, legal_held, all_append}
 use Rattle.kinds.specs.Same.{same}
-use Rattle.kinds.proofs.SameLaws.{same_is, same_self, is_same}
+use Rattle.kinds.proofs.SameLaws.{same_is, same_self}
 
 -- ---- the parts of an image
 

@@ -6,19 +6,18 @@ use mathlib.Core.Path.{◌≡◌, refl, sym, ◌∙◌, ap}
 use mathlib.Core.Bool.{true}
 use mathlib.Core.List.{List, [], ◌++◌, map, append_assoc, append-nil}
 use mathlib.Core.Option.{some}
-use lib.ListN.{length, take, drop, get_or, replicate, length-append, length-drop, length-map, length-replicate, take-append-drop, drop_of_length-le}
-use lib.Seq.{sets, length-take-le, take-length}
-use Rattle.kinds.specs.Sizes.{Who, limit, row_size}
+use lib.ListN.{length, take, drop, get_or, replicate, length-append, length-drop, length-map, length-replicate, take-append-drop}
+use lib.Seq.{sets, length-take-le}
+use Rattle.kinds.specs.Sizes.{limit, row_size}
 use Rattle.command.specs.Words.{word, word_at}
 use Rattle.command.specs.Command.{command_bytes}
 use Rattle.command.proofs.WordsLaws.{Bytes, word_length}
 use Rattle.state.specs.State.{Kept, follower, State}
-use Rattle.state.specs.Legal.{legal_kept, legal_lost, legal_state}
+use Rattle.state.specs.Legal.{legal_kept}
 use Rattle.rows.specs.Rows.{bytes_of, row, entry_of, Row, row_bytes, entry_row, row_of}
 use Rattle.state.specs.Image.{head_size, state_size, voters_of, gathered_of, confirmed_of, image, kept_in, read_kept}
 use Rattle.state.specs.Head.{bytes_of_head, head_of}
 use Rattle.state.specs.Table.{rows_of, table}
-use Rattle.kinds.proofs.BoolLaws.{and_both}
 use Rattle.rows.proofs.ListLaws.{sets_skip, sets_front, sets_last}
 use Rattle.rows.proofs.PartLaws.{drop_bytes}
 use Rattle.state.proofs.HeadLaws.{bytes_of_head_length}

@@ -15,7 +15,7 @@ use Rattle.kinds.specs.Sizes.{limit, term_most, row_size}
 use Rattle.command.specs.Command.{legal_command}
 use Rattle.state.specs.State.{Pair}
 use Rattle.state.specs.Legal.{all, legal_pair}
-use Rattle.rows.specs.Rows.{bytes_of, row, Row, row_bytes}
+use Rattle.rows.specs.Rows.{bytes_of, Row, row_bytes}
 use Rattle.state.specs.Image.{pair_of}
 use Rattle.state.specs.Table.{pair_row, table}
 use Rattle.rows.proofs.RowLaws.{row_bytes_length, rows_length, row_fits}

@@ -1,6 +1,6 @@
 -- The bytes of a state, as docs/LAYOUT.md has them: a head of 56 bytes, then a table of a row of 20 bytes for each place of the limit.
 -- The log's rows come first, the gathered rows right behind them, and what is not used is zero. Assumes nothing.
-use Rattle.std.specs.Prelude.{ℕ, zero, suc, ◌+◌, ◌-◌, ◌*◌, Bool, true, false, cond, ◌&&◌, List, [], ◌∷◌, ◌++◌, map, eqb, length, drop, replicate}
+use Rattle.std.specs.Prelude.{ℕ, zero, suc, ◌+◌, ◌-◌, ◌*◌, Bool, false, cond, ◌&&◌, List, [], ◌∷◌, ◌++◌, map, eqb, length, drop, replicate}
 use Rattle.std.proofs.Math.Option.{Option, none, some}
 use Rattle.kinds.specs.Sizes.{Who, hubs_most, limit, row_size}
 use Rattle.command.specs.Words.{word, part, word_at}

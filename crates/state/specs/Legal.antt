@@ -1,8 +1,8 @@
 -- A legal state (rules R14 and R15): the kept parts alone, and with what each role holds, given N and the own number.
 -- A list over the seven hubs has hub h at h - 1. Assumes nothing.
-use Rattle.std.specs.Prelude.{ℕ, ◌+◌, ◌-◌, Bool, true, false, ◌&&◌, ◌||◌, not, List, [], ◌∷◌, leb, ltb, eqb, length, drop, get_or}
+use Rattle.std.specs.Prelude.{ℕ, ◌+◌, ◌-◌, Bool, true, false, ◌&&◌, ◌||◌, not, List, leb, ltb, eqb, length, drop, get_or}
 unfoldable pub use Rattle.kinds.specs.Hubs.{all, count}
-use Rattle.kinds.specs.Sizes.{between, Who, hubs_most, majority, term_most, limit}
+use Rattle.kinds.specs.Sizes.{Who, hubs_most, majority, term_most, limit}
 use Rattle.command.specs.Command.{legal_command}
 use Rattle.command.specs.Entry.{legal_entries}
 use Rattle.state.specs.State.{Kept, Pair, Lost, follower, candidate, leader, State}
