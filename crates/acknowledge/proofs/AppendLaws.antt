@@ -106,4 +106,8 @@ module _ (w : Who) (l : List ℕ) (prev prevterm chosen count : ℕ) (s : List �
       missed_answered miss said =
           let misses = sym fitted_is ∙ miss in
           said_answered left _ (append_misses w (state_in l) from prev prevterm chosen es misses) el
-          (rw (next.1, len_after w (state_in l) prev prevterm chosen es misses, says_after w (state_in l) prev prevterm chosen es from (append_no (len (state_in l)))) at said)
+          (rw (
+            next.1,
+            len_after w (state_in l) prev prevterm chosen es misses,
+            says_after w (state_in l) prev prevterm chosen es from (append_no (len (state_in l))),
+          ) at said)

@@ -87,7 +87,8 @@ entries_small s f n told is = by (read s) refl (sym told.answer ∙ is)
         omega arith
 
 -- Two answers that meet the promise of reading a message are the same.
-pub tells_unique : {t : Told} {s : List ℕ} {r r' : ℕ} {numbers numbers' : List ℕ} → Tells t s r numbers → Tells t s r' numbers' → (r ≡ r') × (numbers ≡ numbers')
+pub tells_unique :
+    {t : Told} {s : List ℕ} {r r' : ℕ} {numbers numbers' : List ℕ} → Tells t s r numbers → Tells t s r' numbers' → (r ≡ r') × (numbers ≡ numbers')
 tells_unique {t} {s} p q =
     let same = place_with_one t.outcome s p.place_is q.place_is in
     (p.returned ∙ ap (λ (x : ℕ). packed (placed t.outcome x) t.entries) same ∙ sym q.returned, p.left ∙ sym q.left)

@@ -71,7 +71,8 @@ module _ (f : Fields) (rows out : List ℕ) (room : ℕ) (r= : room ≡ text_roo
             written_puts = record { legal = sym tested ∙ legal; held = rows_held; room = omega (arith, r=, long) }
 
             -- It is written.
-            pub written_message : {n : ℕ} {after : List ℕ} → Wrote out 0 (text (message_with f rows)) n after → WritesText (written_by f rows out) (Message n) after
+            pub written_message :
+                {n : ℕ} {after : List ℕ} → Wrote out 0 (text (message_with f rows)) n after → WritesText (written_by f rows out) (Message n) after
             unfolding written_by
             written_message w =
                 let s = text (message_with f rows) in
@@ -133,7 +134,10 @@ module _ (f : Fields) (rows out : List ℕ) where
   written_back told =
       let w = is_written told in
       rw (w.1, take_at s (drop (length s) out) (length s) refl)
-      (record { read_is = read_text (message_with f rows) w.0; fields_are = fields_back f (row_entries (many_in f.body) rows) (rows_in_length entry_of (many_in f.body) rows) })
+      (record {
+        read_is = read_text (message_with f rows) w.0;
+        fields_are = fields_back f (row_entries (many_in f.body) rows) (rows_in_length entry_of (many_in f.body) rows);
+      })
 
   -- They are no more than an output has room for.
   pub written_fits : (written_by f rows out).outcome ≡ done → (written_by f rows out).bytes ≤ text_room

@@ -45,7 +45,8 @@ one_more head long xs y ys room t =
     let full = table_length rs room in
     sets_skip head (table rs) (word 4 t) (i * row_size) (head_size + i * row_size) (omega arith) (omega (arith, word_length 4 t))
     ∙ ap (λ (x : List ℕ). head ++ x) (table_renumbered rs i y t (omega arith) room ∙ rw here)
-    ∙ sym (sets_skip head (table rs) (row_bytes (numbered t y)) (i * row_size) (head_size + i * row_size) (omega arith) (omega (arith, row_bytes_length (numbered t y))))
+    ∙ sym (sets_skip head (table rs) (row_bytes (numbered t y)) (i * row_size) (head_size + i * row_size) (omega arith)
+    (omega (arith, row_bytes_length (numbered t y))))
     ∙ row_over head long xs y ys (numbered t y) room
 
 -- All rows behind the first ones have another number.
@@ -91,7 +92,8 @@ module _ (w : Who) (k : Kept) (gathered : List Pair) where
   -- Behind any head, the rows of log and gathered entries, renumbered, and the head of a leader: the leader's image.
   pub lead_written :
       (head : List ℕ) → length head ≡ head_size → length k.log + length gathered ≤ limit
-      → sets (renumbered (head ++ table (map entry_row k.log ++ map pair_row gathered)) (head_size + length k.log * row_size) (length gathered) k.term) 0 (bytes_of_head (head_of next.kept next.lost))
+      → sets (renumbered (head ++ table (map entry_row k.log ++ map pair_row gathered)) (head_size + length k.log * row_size) (length gathered) k.term) 0
+      (bytes_of_head (head_of next.kept next.lost))
       ≡ image next
   unfolding head_of leads voters_of confirmed_of
   lead_written head long room =
@@ -101,7 +103,8 @@ module _ (w : Who) (k : Kept) (gathered : List Pair) where
       let g = length-map gathered pair_row in
       let a = length-append entries pairs in
       let done = renumbered_table head long entries pairs (omega arith) k.term in
-      let seven = length-map (lib.ListN.set (replicate hubs_most 0) (w.own - 1) (length (joined k gathered).log)) place ∙ length-set (replicate hubs_most 0) (w.own - 1) (length (joined k gathered).log) in
+      let seven = length-map (lib.ListN.set (replicate hubs_most 0) (w.own - 1) (length (joined k gathered).log)) place
+      ∙ length-set (replicate hubs_most 0) (w.own - 1) (length (joined k gathered).log) in
       let bytes = bytes_of_head_length (head_of next.kept next.lost) refl seven in
       rw (← n, ← g, done, image_is next, rows_are)
       (sets_front head (table (entries ++ map (numbered k.term) pairs)) (bytes_of_head (head_of next.kept next.lost)) (long ∙ sym bytes))

@@ -49,7 +49,9 @@ module _ (w : Who) (k : Kept) (from ballot : ℕ) (entries : List Entry) where
   yes_other (leader confirmed) h = refl
 
   -- From a voter seen before.
-  yes_seen : (l : Lost) → role_of l ≡ as_candidate → get_or (voters_of l) (from - 1) false ≡ true → heard_yes w (record { kept = k; lost = l }) from ballot entries ≡ idle
+  yes_seen :
+      (l : Lost) → role_of l ≡ as_candidate → get_or (voters_of l) (from - 1) false ≡ true
+      → heard_yes w (record { kept = k; lost = l }) from ballot entries ≡ idle
   unfolding heard_yes role_of voters_of
   yes_seen follower h e = refl
   yes_seen (candidate voters gathered) h e = rw e
@@ -153,7 +155,8 @@ module _ (w : Who) (l : List ℕ) (from ballot n : ℕ) (s : List ℕ) (hears : 
     room : length (state_in l).kept.log + length (entries_from n s) ≤ limit
     room =
         let k = (state_in l).kept in
-        yes_room k (state_in l).lost hears.last ballot (entries_from n s) stands (yes_is k.term hears.last ballot (entries_from n s) hears.yes.legal) hears.yes.agrees
+        yes_room k (state_in l).lost hears.last ballot (entries_from n s) stands (yes_is k.term hears.last ballot (entries_from n s) hears.yes.legal)
+        hears.yes.agrees
 
     -- The entries have a place behind the log.
     pub heard_room : h.length.0 + n ≤ limit
@@ -182,11 +185,13 @@ module _ (w : Who) (l : List ℕ) (from ballot n : ℕ) (s : List ℕ) (hears : 
 
     written :
         counted_into w (with_voter h from (max h.gathered.0 n)) (gathered_into l (head_size + h.length.0 * row_size) h.gathered.0 ballot (entries_from n s))
-        ≡ image (counted w (state_in l).kept (set (voters_of (state_in l).lost) (from - 1) true) (gather (gathered_of (state_in l).lost) ballot (entries_from n s)))
+        ≡ image
+        (counted w (state_in l).kept (set (voters_of (state_in l).lost) (from - 1) true) (gather (gathered_of (state_in l).lost) ballot (entries_from n s)))
     unfolding head_of
     written =
         rw (gathered_is, length_is, all_of)
-        (rw (ready_image w l ready, hears.yes.lie.count_is) at (yes_written w (state_in l).kept (state_in l).lost from ballot (entries_from n s) stands (ready_legal w l ready) room))
+        (rw (ready_image w l ready, hears.yes.lie.count_is) at
+        (yes_written w (state_in l).kept (state_in l).lost from ballot (entries_from n s) stands (ready_legal w l ready) room))
 
     -- A new voter.
     pub heard_new :
@@ -194,5 +199,6 @@ module _ (w : Who) (l : List ℕ) (from ballot n : ℕ) (s : List ℕ) (hears : 
         → l1 ≡ gathered_into l first h.gathered.0 ballot (entries_from n s) → f ≡ with_voter h from (max h.gathered.0 n)
         → l2 ≡ counted_into w f l1 → Ruled (heard_yes w (state_in l) from ballot (entries_from n s)) l true l2
     heard_new new efirst e1 ef e2 =
-        let told = yes_new w (state_in l).kept from ballot (entries_from n s) (state_in l).lost stands (ap (λ (vs : List Bool). get_or vs (from - 1) false) (sym voters_are) ∙ new) in
+        let told = yes_new w (state_in l).kept from ballot (entries_from n s) (state_in l).lost stands
+        (ap (λ (vs : List Bool). get_or vs (from - 1) false) (sym voters_are) ∙ new) in
         effect_ruled _ l _ told (rw (e2, ef, e1, efirst) written)

@@ -52,7 +52,8 @@ none_legal low (e ∷ es) h =
     absurd (omega (arith, f.from, f.to))
 
 -- At term 0 an append brings nothing.
-zero_kept : (k : Kept) (prev prevterm chosen : ℕ) (es : List Entry) → IsKept k → k.term ≡ 0 → IsAppend k.term prev prevterm chosen es → IsKept (taken k prev chosen es)
+zero_kept :
+    (k : Kept) (prev prevterm chosen : ℕ) (es : List Entry) → IsKept k → k.term ≡ 0 → IsAppend k.term prev prevterm chosen es → IsKept (taken k prev chosen es)
 unfolding taken replaced
 zero_kept k prev prevterm chosen es kept none_yet m =
     let start : prev ≡ 0 = m.start.0 (omega (arith, m.low)) in

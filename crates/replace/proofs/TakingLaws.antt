@@ -50,4 +50,12 @@ module _ (k : Kept) (prev chosen : ℕ) (entries : List Entry) where
       let n = length-map k.log entry_row in
       let m = length-map entries entry_row in
       let none_left = drop_of_length-le rows {i = prev + length new} (omega arith) in
-      rw (h, append-nil rows, none_left, append-nil new, append-nil (map entry_row (take prev k.log ++ entries)), map-append entry_row (take prev k.log) entries, rows_take prev k.log)
+      rw (
+        h,
+        append-nil rows,
+        none_left,
+        append-nil new,
+        append-nil (map entry_row (take prev k.log ++ entries)),
+        map-append entry_row (take prev k.log) entries,
+        rows_take prev k.log,
+      )
