@@ -146,7 +146,8 @@ module _ (w : Who) (h : Head) (l : List ℕ) (f : Fields) (s out : List ℕ) (d 
     not_higher = ap (λ (t : ℕ). ltb t f.term.0) (sym own) ∙ low
 
     -- Outcome 7.
-    pub contradicting_comes : contradicts (state_in l) (body_in f.body s) ≡ true → Comes (receive w (state_in l) (message_heard f s)) l out (told contradicting 0) l out
+    pub contradicting_comes : contradicts (state_in l) (body_in f.body s) ≡ true
+        → Comes (receive w (state_in l) (message_heard f s)) l out (told contradicting 0) l out
     unfolding receive
     contradicting_comes c = refused_comes (state_in l) l out contradicting (rw (d.addressed, d.fresh, not_higher, c)) (λ e. omega arith)
 
