@@ -68,7 +68,8 @@ unlisted (suc (suc (suc (suc zero)))) h = absurd (let z : ◌≡◌ {A = ℕ} 0 
 unlisted (suc (suc (suc (suc (suc zero))))) h = absurd (let z : ◌≡◌ {A = ℕ} 0 1 = cc in omega arith)
 unlisted (suc (suc (suc (suc (suc (suc n)))))) h =
     let m = suc (suc (suc (suc (suc (suc n))))) in
-    rw (ne_eqb m 1 (λ e. omega arith), ne_eqb m 2 (λ e. omega arith), ne_eqb m 3 (λ e. omega arith), ne_eqb m 4 (λ e. omega arith), ne_eqb m 5 (λ e. omega arith))
+    rw (ne_eqb m 1 (λ e. omega arith), ne_eqb m 2 (λ e. omega arith), ne_eqb m 3 (λ e. omega arith), ne_eqb m 4 (λ e. omega arith),
+    ne_eqb m 5 (λ e. omega arith))
 
 above : (k n : ℕ) → k ≤ n → (n ≡ k → ⊥) → k < n
 above k n h other = omega (arith, other)
@@ -111,7 +112,8 @@ module _ (c : Call) where
       (and_first size (hub && event) h, and_first hub event rest, and_second hub event rest)
 
   -- Behind the first test: what the event needs to see.
-  stepped : (h : is_known c.who c.event ≡ true) → (let e = listed c.who c.state c.event (known_parts h).2 in step_of c ≡ at_state c e.event (seen_by c.who e.event c.state))
+  stepped : (h : is_known c.who c.event ≡ true)
+      → (let e = listed c.who c.state c.event (known_parts h).2 in step_of c ≡ at_state c e.event (seen_by c.who e.event c.state))
   unfolding step_of at_event
   stepped h =
       let p = known_parts h in
@@ -148,7 +150,8 @@ module _ (c : Call) where
   unfolding gate at_state is_some
   step_refused k e h = known (is_known c.who c.event) refl
     where
-      room : (b : Bool) (o : Option State) → is_some o ≡ true → ltb (length c.output) text_room ≡ b → (a : is_known c.who c.event ≡ true) → is_fit c.who c.event c.state ≡ true
+      room : (b : Bool) (o : Option State) → is_some o ≡ true → ltb (length c.output) text_room ≡ b → (a : is_known c.who c.event ≡ true)
+          → is_fit c.who c.event c.state ≡ true
           → (let e = listed c.who c.state c.event (known_parts a).2 in seen_by c.who e.event c.state ≡ o) → Answers (step_of c) c.input k c.state c.output
       room b none f d a fit is = absurd (let z : ◌≡◌ {A = ℕ} 0 1 = cc in omega arith)
       room true (some s) f d a fit is = refusal_answers k (λ four. gate_other (sym e ∙ four)) (stepped a ∙ rw (is, d, e, a, fit, d))
@@ -199,14 +202,17 @@ module _ (c : Call) where
     acts e s event sees = rw (event, open_parts.0, open_parts.1, sees, (gate_passed h).2)
 
     -- Start.
-    pub step_start : c.event ≡ 1 → {r : ℕ} {l out : List ℕ} → Gives (start c.who (state_in c.state)) c.state c.output r l out → Answers (step_of c) c.input r l out
+    pub step_start : c.event ≡ 1 → {r : ℕ} {l out : List ℕ} → Gives (start c.who (state_in c.state)) c.state c.output r l out
+        → Answers (step_of c) c.input r l out
     unfolding event_of seen_by acting
     step_start e g =
         let ready = step_ready (λ f. omega arith) in
-        rw (acts start_event (state_in c.state) (rw e) ready.held) (gives_answers c (start c.who (state_in c.state)) (start_told c.who (state_in c.state)).other g)
+        rw (acts start_event (state_in c.state) (rw e) ready.held)
+        (gives_answers c (start c.who (state_in c.state)) (start_told c.who (state_in c.state)).other g)
 
     -- Propose.
-    pub step_propose : c.event ≡ 2 → {r : ℕ} {l : List ℕ} → Quiet (propose c.who (state_in c.state) (read_proposal c.input)) c.state r l → Answers (step_of c) c.input r l c.output
+    pub step_propose : c.event ≡ 2 → {r : ℕ} {l : List ℕ} → Quiet (propose c.who (state_in c.state) (read_proposal c.input)) c.state r l
+        → Answers (step_of c) c.input r l c.output
     unfolding event_of seen_by acting
     step_propose e q =
         let ready = step_ready (λ f. omega arith) in
@@ -214,11 +220,13 @@ module _ (c : Call) where
         (propose_told c.who (state_in c.state).kept (state_in c.state).lost (read_proposal c.input)).other q)
 
     -- Send.
-    pub step_send : c.event ≡ 3 → {r : ℕ} {l out : List ℕ} → Gives (send c.who (state_in c.state) c.a c.b) c.state c.output r l out → Answers (step_of c) c.input r l out
+    pub step_send : c.event ≡ 3 → {r : ℕ} {l out : List ℕ} → Gives (send c.who (state_in c.state) c.a c.b) c.state c.output r l out
+        → Answers (step_of c) c.input r l out
     unfolding event_of seen_by acting
     step_send e g =
         let ready = step_ready (λ f. omega arith) in
-        rw (acts send_event (state_in c.state) (rw e) ready.held) (gives_answers c (send c.who (state_in c.state) c.a c.b) (send_told c.who (state_in c.state) c.a c.b).other g)
+        rw (acts send_event (state_in c.state) (rw e) ready.held)
+        (gives_answers c (send c.who (state_in c.state) c.a c.b) (send_told c.who (state_in c.state) c.a c.b).other g)
 
     -- Restart.
     pub step_restart : c.event ≡ 4 → {l : List ℕ} → l ≡ image (restart (kept_in c.state)).state → Answers (step_of c) c.input done l c.output
