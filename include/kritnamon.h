@@ -191,8 +191,8 @@ uint32_t kritnamon_play(const uint8_t *bytes, size_t length, int64_t elapsed, ui
 
 /* An answer of 64 bits has up to three numbers, each with bits of its own: the outcome; the place of the
  * first wrong byte of a text, which is 0 with every outcome but KRITNAMON_BAD_MESSAGE; and a second
- * number, which each function below names. Proved: each comes back as it was put in (parts-back in
- * crates/kinds; answer-parts in crates/promise, of a step). */
+ * number, which each function below names. Proved: each comes back as it was put in (parts_back in
+ * crates/kinds; answer_parts in crates/promise, of a step). */
 #define KRITNAMON_OUTCOME(answer)  ((uint32_t)((answer) & 0xffu))
 #define KRITNAMON_WRONG_AT(answer) ((uint32_t)((answer) >> 8) & 0xffffffu)
 #define KRITNAMON_SECOND(answer)   ((uint32_t)((answer) >> 32))

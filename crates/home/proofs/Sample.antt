@@ -133,12 +133,12 @@ unfolding computed put happens met adding
 scrambled_kept = refl
 
 -- Hub 1 comes back with them.
-abbrev comes_back_lem : Deed
-comes_back_lem =
+abbrev comes_back : Deed
+comes_back =
     record { hub = 1; event = 4; a = 0; b = 0; state = scrambled (image (final.states 1)); input = []; output = replicate text_room 0 }
 
 -- That takes effect.
-comes_back_done : (step_of (call_for trio comes_back_lem)).outcome ≡ done
+comes_back_done : (step_of (call_for trio comes_back)).outcome ≡ done
 unfolding computed put happens met adding call_for
 comes_back_done = refl
 
@@ -153,7 +153,7 @@ unread = refl
 
 module _ (H : HomeOfHubs) (is : IsWritten H final) (legal : legal_state (hub_of trio 1) (final.states 1) ≡ true) where
   -- Both may happen.
-  comes_back_fair : Fair hub_engine H comes_back_lem
+  comes_back_fair : Fair hub_engine H comes_back
   unfolding event_of text_for is_restart
   comes_back_fair =
       record {
@@ -183,10 +183,10 @@ sample_home =
     let ok = (meetings_stand kept final run).stands in
     let (H, runs, is) = meetings_run kept (hub_writes trio refl) (λ H W J is ok h o hub i. enacted trio refl H W J is ok h hub o i) final run in
     let before : Reached hub_engine trio H = record { group = refl; runs = runs } in
-    let back = after hub_engine trio H comes_back_lem in
+    let back = after hub_engine trio H comes_back in
     let more =
     runs_trans trio H back (after hub_engine trio back (damaged back))
-    (runs_one trio H comes_back_lem (comes_back_fair H is (ok.among.legal 1))) (runs_one trio back (damaged back) (damaged_fair back)) in (
+    (runs_one trio H comes_back (comes_back_fair H is (ok.among.legal 1))) (runs_one trio back (damaged back) (damaged_fair back)) in (
       after hub_engine trio back (damaged back),
       record { group = refl; runs = runs_trans trio _ _ _ runs more },
       stability trio refl H _ 1 1 buzz before more (reports_written is 1 (ok.among.legal 1) both_report.1),

@@ -1,5 +1,5 @@
 // Text as rule R27 has it: decimal numbers, lower-case hex digits and `key=` lines. What a reader answers, and the bytes that readers and
-// writers share. The definitions and their laws stand beside; who reads is in `scan` and `digits`, who writes in `print` and `hex`.
+// writers share. The definitions and their laws stand beside; who reads is in `scan` and `digits`, who writes in `print` and `in_hex`.
 #![tactic(auto)]
 
 // The byte of the digit 0. The other digits follow it.

@@ -1,4 +1,4 @@
--- `hex::hex_digit` meets its contract: the two cases of `hex_digit`. Assumes nothing.
+-- `in_hex::hex_digit` meets its contract: the two cases of `hex_digit`. Assumes nothing.
 use borrow.Author.Rules.{rules}
 use Rattle.text.proofs.HexLaws.{digit_low, digit_high}
 use mathlib.Core.Path.{sym}

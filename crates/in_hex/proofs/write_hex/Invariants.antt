@@ -1,4 +1,4 @@
--- `hex::write_hex` meets its contract. The loop's invariant: the digits of the first j bytes are written. The measure is what is left of the
+-- `in_hex::write_hex` meets its contract. The loop's invariant: the digits of the first j bytes are written. The measure is what is left of the
 -- bytes. Assumes nothing.
 use Prim.Native.Nat.{◌+◌, ◌-◌, ◌*◌, ◌≤◌}
 use mathlib.Core.Path.{◌≡◌}
