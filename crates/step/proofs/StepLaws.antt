@@ -68,8 +68,13 @@ unlisted (suc (suc (suc (suc zero)))) h = absurd (let z : ◌≡◌ {A = ℕ} 0 
 unlisted (suc (suc (suc (suc (suc zero))))) h = absurd (let z : ◌≡◌ {A = ℕ} 0 1 = cc in omega arith)
 unlisted (suc (suc (suc (suc (suc (suc n)))))) h =
     let m = suc (suc (suc (suc (suc (suc n))))) in
-    rw (ne_eqb m 1 (λ e. omega arith), ne_eqb m 2 (λ e. omega arith), ne_eqb m 3 (λ e. omega arith), ne_eqb m 4 (λ e. omega arith),
-    ne_eqb m 5 (λ e. omega arith))
+    rw (
+      ne_eqb m 1 (λ e. omega arith),
+      ne_eqb m 2 (λ e. omega arith),
+      ne_eqb m 3 (λ e. omega arith),
+      ne_eqb m 4 (λ e. omega arith),
+      ne_eqb m 5 (λ e. omega arith),
+    )
 
 above : (k n : ℕ) → k ≤ n → (n ≡ k → ⊥) → k < n
 above k n h other = omega (arith, other)
