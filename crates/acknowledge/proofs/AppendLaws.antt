@@ -11,7 +11,6 @@ use Rattle.kinds.specs.Of.{place}
 use Rattle.kinds.specs.Sizes.{Who, limit}
 use Rattle.command.specs.Entry.{Entry}
 use Rattle.message.specs.Message.{Message, Body as Says, append_yes, append_no}
-use Rattle.message.specs.Walk.{entries_from}
 use Rattle.state.specs.State.{Kept, State}
 use Rattle.state.specs.Legal.{legal_state}
 use Rattle.state.specs.Image.{image, state_in}
@@ -61,50 +60,47 @@ module _ (w : Who) (s : State) (prev prevterm chosen : ℕ) (es : List Entry) wh
 
 -- ---- an append that is heard
 
-module _ (w : Who) (l : List ℕ) (prev prevterm chosen count : ℕ) (s : List ℕ) (a : HearsAppend w l prev prevterm chosen count s) where
-  abbrev es : List Entry
-  es = entries_from count s
-
+module _ (w : Who) (l : List ℕ) (prev prevterm chosen : ℕ) (es : List Entry) (a : HearsAppend w l prev prevterm chosen es) where
   abbrev left : State
   left = taken_by (state_in l) prev prevterm chosen es
 
   -- Its end is a place of the log.
-  pub end_within : prev + count ≤ limit
-  end_within = omega (arith, (append_is (state_in l).kept.term prev prevterm chosen es a.legal).within, a.lie.count_is)
+  pub end_within : prev + length es ≤ limit
+  end_within = (append_is (state_in l).kept.term prev prevterm chosen es a.legal).within
 
   left_legal : legal_state w left ≡ true
   left_legal = taken_by_legal w (ready_who w l a.ready) (state_in l) prev prevterm chosen es (ready_legal w l a.ready) a.legal
 
-  module _ (from : ℕ) (out : List ℕ) (k : Answering w l from out) {l' : List ℕ} (el : l' ≡ image left) where
+  module _ (from : ℕ) (out : List ℕ) (k : Answering (state_in l) from out) {l' : List ℕ} (el : l' ≡ image left) where
     next : Ready w l' × (state_in l' ≡ left)
     next = ready_next w l a.ready left left_legal el
 
+    -- The bytes are ready again.
+    pub ready_after : Ready w l'
+    ready_after = next.0
+
     -- The sender may be answered after it.
-    pub may_say_after : Answering w l' from out
+    pub may_say_after : Answering (state_in l') from out
     may_say_after =
         let same = ap (λ (x : State). x.kept.term) next.1 ∙ after_term_lem w (state_in l) prev prevterm chosen es in
-        record { ready = next.0; risen = omega (arith, same, k.risen); to_first = k.to_first; to_last = k.to_last; room = k.room }
+        record { risen = omega (arith, same, k.risen); to_first = k.to_first; to_last = k.to_last; room = k.room }
 
-    module _ {fitted : Bool} (is : fitted ≡ fits (state_in l).kept prev prevterm (prev + count)) where
-      fitted_is : fitted ≡ fitting w (state_in l) prev prevterm chosen es
-      fitted_is = is ∙ ap (λ (n : ℕ). fits (state_in l).kept prev prevterm (prev + n)) (sym a.lie.count_is)
-
+    module _ {fitted : Bool} (is : fitted ≡ fits (state_in l).kept prev prevterm (prev + length es)) where
       -- It fitted: append-yes with its end.
       pub fitted_answered :
-          fitted ≡ true → {n : ℕ} {end : Place} → n ≡ prev → end ≡ place (n + count) → {r : ℕ} {out' : List ℕ}
+          fitted ≡ true → {end : Place} → end ≡ place (prev + length es) → {r : ℕ} {out' : List ℕ}
           → Said (says w (state_in l') from (append_yes end.0)) out r out'
           → Answered (heard_append w (state_in l) from prev prevterm chosen es) l out r l' out'
-      fitted_answered fit en ee said =
-          let is_end : _ ≡ prev + length es = ap (λ (p : Place). p.0) ee ∙ omega (arith, a.lie.count_is, en) in
-          said_answered left _ (append_fits w (state_in l) from prev prevterm chosen es (sym fitted_is ∙ fit)) el
-          (rw (next.1, is_end, says_after w (state_in l) prev prevterm chosen es from (append_yes (prev + length es))) at said)
+      fitted_answered fit ee said =
+          said_answered left _ (append_fits w (state_in l) from prev prevterm chosen es (sym is ∙ fit)) el
+          (rw (next.1, ee, says_after w (state_in l) prev prevterm chosen es from (append_yes (prev + length es))) at said)
 
       -- It did not: append-no with own length.
       pub missed_answered :
           fitted ≡ false → {r : ℕ} {out' : List ℕ} → Said (says w (state_in l') from (append_no (len (state_in l')))) out r out'
           → Answered (heard_append w (state_in l) from prev prevterm chosen es) l out r l' out'
       missed_answered miss said =
-          let misses = sym fitted_is ∙ miss in
+          let misses = sym is ∙ miss in
           said_answered left _ (append_misses w (state_in l) from prev prevterm chosen es misses) el
           (rw (
             next.1,

@@ -1,3 +1,4 @@
 pub mod WrittenLaws
 pub mod ToldLaws
 pub mod LeftLaws
+pub mod ShortLaws

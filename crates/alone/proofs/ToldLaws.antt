@@ -23,7 +23,8 @@ use Rattle.message.specs.Answer.{fields_of}
 use Rattle.message.specs.declared.Fields.{Fields}
 use Rattle.reader.specs.Answer.{read_as, Reads}
 use Rattle.reader.specs.declared.Read.{Read}
-use Rattle.reader.specs.declared.Read.TheVariants.{Message as Read-as-Message, Refused}
+use Rattle.seek.specs.declared.Wrong.{Wrong}
+use Rattle.std.specs.Prelude.{Result, Ok, Err}
 use Rattle.reader.proofs.AnswerLaws.{refused_never, unread_at}
 use Rattle.numbers.specs.Numbers.{message_numbers, numbers_of, numbers_in}
 use Rattle.numbers.proofs.NumbersLaws.{numbers_same, numbers_eight}
@@ -38,52 +39,52 @@ module _ (s numbers : List ℕ) where
 
   -- The text is no legal message; its place is told.
   pub tells_refused :
-      message_numbers ≤ length numbers → {a : Read} {p r : ℕ} → Reads s a → a ≡ Refused p → r ≡ placed bad_message p
+      message_numbers ≤ length numbers → {a : Result Read Wrong} {w : Wrong} {r : ℕ} → Reads s a → a ≡ Err w → r ≡ placed bad_message w.place
       → Tells (numbers_told s numbers) s r numbers
   unfolding numbers_told tells_read
-  tells_refused h {a} {p} told is returned =
+  tells_refused h {a} {w} told is returned =
       let u = unread_at s told is in
       rw (le-ltb (length numbers) message_numbers h, u.none_read)
-      (record { place = p; place_is = with_place u.at; returned = returned ∙ sym (packed_alone (placed bad_message p)); left = refl })
+      (record { place = w.place; place_is = with_place u.at; returned = returned ∙ sym (packed_alone (placed bad_message w.place)); left = refl })
 
-  read_is : (p : ℕ) (o : Option Message) (f : Fields) (n : ℕ) → read_as s p o ≡ Read-as-Message f n →
-      tells_read s numbers o ≡ record { outcome = done; entries = n; numbers = numbers_in f ++ drop message_numbers numbers }
+  read_is : (p : ℕ) (o : Option Message) (m : Read) → read_as s p o ≡ Ok m →
+      tells_read s numbers o ≡ record { outcome = done; entries = m.entries; numbers = numbers_in m.fields ++ drop message_numbers numbers }
   unfolding read_as tells_read
-  read_is p none f n e = absurd (refused_never e)
-  read_is p (some m) f n e =
-      let f= : f ≡ fields_of m = cc in
-      let n= : n ≡ part_from s (some m) = cc in
-      let put : numbers_of m ≡ numbers_in f = sym (ap (λ (g : Fields). numbers_in g) f= ∙ numbers_same m) in
+  read_is p none m e = absurd (refused_never e)
+  read_is p (some x) m e =
+      let f= : m.fields ≡ fields_of x = cc in
+      let n= : m.entries ≡ part_from s (some x) = cc in
+      let put : numbers_of x ≡ numbers_in m.fields = sym (ap (λ (g : Fields). numbers_in g) f= ∙ numbers_same x) in
       λ i. record { outcome = done; entries = sym n= i; numbers = put i ++ drop message_numbers numbers }
 
   -- Its numbers are put.
-  pub tells_message : {left : List ℕ} (f : Fields) (n : ℕ) → message_numbers ≤ length numbers → {a : Read} → Reads s a → a ≡ Read-as-Message f n
-      → left ≡ sets numbers 0 (numbers_in f) → {r : ℕ} → r ≡ packed done n → Tells (numbers_told s numbers) s r left
+  pub tells_message : {left : List ℕ} (m : Read) → message_numbers ≤ length numbers → {a : Result Read Wrong} → Reads s a → a ≡ Ok m
+      → left ≡ sets numbers 0 (numbers_in m.fields) → {r : ℕ} → r ≡ packed done m.entries → Tells (numbers_told s numbers) s r left
   unfolding numbers_told
-  tells_message f n h told is put returned =
-      let eight = numbers_eight f in
-      let written : sets numbers 0 (numbers_in f) ≡ numbers_in f ++ drop (length (numbers_in f)) numbers =
-      sets-eq (numbers_in f) numbers 0 (omega arith) ∙ ap (λ (k : ℕ). numbers_in f ++ drop k numbers) (zero-add (length (numbers_in f))) in
-      rw (le-ltb (length numbers) message_numbers h, read_is told.place (read s) f n (sym told.answer ∙ is))
+  tells_message m h told is put returned =
+      let eight = numbers_eight m.fields in
+      let written : sets numbers 0 (numbers_in m.fields) ≡ numbers_in m.fields ++ drop (length (numbers_in m.fields)) numbers =
+      sets-eq (numbers_in m.fields) numbers 0 (omega arith) ∙ ap (λ (k : ℕ). numbers_in m.fields ++ drop k numbers) (zero-add (length (numbers_in m.fields))) in
+      rw (le-ltb (length numbers) message_numbers h, read_is told.place (read s) m (sym told.answer ∙ is))
       (record {
         place = 0;
         place_is = no_place (λ four. omega (arith, four));
         returned = returned;
-        left = put ∙ written ∙ ap (λ (k : ℕ). numbers_in f ++ drop k numbers) eight;
+        left = put ∙ written ∙ ap (λ (k : ℕ). numbers_in m.fields ++ drop k numbers) eight;
       })
 
 -- Where the entry lines begin fits the upper half.
-pub entries_small : (s : List ℕ) (f : Fields) (n : ℕ) {a : Read} → Reads s a → a ≡ Read-as-Message f n → n < half
+pub entries_small : (s : List ℕ) (m : Read) {a : Result Read Wrong} → Reads s a → a ≡ Ok m → m.entries < half
 unfolding read_as part_from
-entries_small s f n told is = by (read s) refl (sym told.answer ∙ is)
+entries_small s m told is = by (read s) refl (sym told.answer ∙ is)
   where
-    by : (o : Option Message) → read s ≡ o → read_as s told.place o ≡ Read-as-Message f n → n < half
+    by : (o : Option Message) → read s ≡ o → read_as s told.place o ≡ Ok m → m.entries < half
     by none q e = absurd (refused_never e)
-    by (some m) q e =
-        let n= : n ≡ part_from s (some m) = cc in
-        let fits = (read_sound s m q).fits in
+    by (some x) q e =
+        let n= : m.entries ≡ part_from s (some x) = cc in
+        let fits = (read_sound s x q).fits in
         let small = room_small in
-        let from : part_from s (some m) ≤ length s = omega arith in
+        let from : part_from s (some x) ≤ length s = omega arith in
         omega arith
 
 -- Two answers that meet the promise of reading a message are the same.

@@ -1,17 +1,38 @@
--- Laws of writing a message alone: one for each way through the code; no second answer meets the promise; and what is written is read back.
+-- Laws of writing a message alone: the text written is what is promised; no second answer meets the promise; and what is written is read back.
 -- Assumes nothing.
-use Prim.Native.Nat.{ℕ, ◌+◌, ◌*◌, ◌≤◌, ◌<◌}
+use Prim.Native.Nat.{ℕ, ◌+◌, ◌*◌, ◌≤◌}
 use native.Mathlib.Omega.{arith}
 use native.Mathlib.Nat.{zero-add}
-use mathlib.Core.Path.{◌≡◌, refl, sym, ◌∙◌, ap}
-use mathlib.Core.Bool.{Bool, true, false}
+use mathlib.Core.Path.{◌≡◌, refl, sym, ◌∙◌, ap, ap₂}
+use mathlib.Core.Bool.{true}
 use mathlib.Core.List.{List, ◌++◌}
 use mathlib.Core.Option.{some}
-use borrow.Author.Tests.{lt-ltb, le-ltb, eq-eqb, ne_eqb}
+use borrow.Author.Tests.{le-ltb, eq-eqb}
 use lib.Dec.{ltb, eqb}
 use lib.ListN.{length, take, drop}
 use lib.Seq.{sets-eq, take_at}
 use Rattle.kinds.specs.Outcome.{done}
+use Rattle.kinds.specs.Refusal.{outcome_of}
+use Rattle.kinds.specs.declared.Refusal.{Refusal}
+use Rattle.kinds.specs.declared.Refusal.TheVariants.{
+  NotKnown,
+  BadState,
+  ShortOutput,
+  BadMessage,
+  NotAddressed,
+  Stale,
+  Contradicting,
+  WrongRole,
+  NoTermLeft,
+  BadCommand,
+  LogFull,
+  OutOfRange,
+  NothingNew,
+  NotPlayable,
+  BadCalibration,
+  BadElapsed,
+}
+use Rattle.std.specs.Prelude.{cond, Result, Ok, Err}
 use Rattle.kinds.specs.Sizes.{text_room, row_size}
 use Rattle.text.specs.Wrote.{Wrote}
 use Rattle.command.proofs.Tests.{by_test, both}
@@ -21,84 +42,76 @@ use Rattle.rows.specs.Rows.{entry_of}
 use Rattle.rows.proofs.RowLaws.{rows_in_length}
 use Rattle.message.specs.Rows.{row_entries}
 use Rattle.message.specs.Text.{text, read}
-use Rattle.message.specs.Write.{message_with, Puts}
+use Rattle.message.specs.Write.{message_with}
 use Rattle.message.specs.declared.Fields.{Fields}
 use Rattle.message.proofs.AnswerLaws.{fields_back}
 use Rattle.message.proofs.ReadLaws.{text_most, read_text}
-use Rattle.alone.specs.declared.Write.{Write}
-use Rattle.alone.specs.declared.Write.TheVariants.{Message, Short, Illegal}
-use Rattle.alone.specs.Written.{is_message, Written, written_text, written_by, write_outcome, write_bytes, WritesText}
+use Rattle.alone.specs.Written.{is_message, Written, written_text, written_by, write_bytes, WritesText}
 
--- ---- each way through the code
+-- ---- the text written
 
-module _ (f : Fields) (rows out : List ℕ) (room : ℕ) (r= : room ≡ text_room) where
-  -- The output is too short.
-  pub written_short : length out < room → WritesText (written_by f rows out) Short out
-  unfolding written_by
-  written_short h = rw (lt-ltb (length out) text_room (omega (arith, r=, h))) (record { outcome_is = refl; bytes_is = refl; out_is = refl })
-
-  module _ (long : room ≤ length out) where
-    not_short : ltb (length out) text_room ≡ false
-    not_short = le-ltb (length out) text_room (omega (arith, r=, long))
-
-    refused : is_message f rows ≡ false → WritesText (written_by f rows out) Illegal out
-    unfolding written_by
-    refused h = rw (not_short, h) (record { outcome_is = refl; bytes_is = refl; out_is = refl })
-
-    module _ (count : ℕ) (e : count ≡ many_in f.body) where
-      -- There are fewer rows than entries, or more.
-      pub written_unheld : (length rows ≡ count * row_size → ⊥) → WritesText (written_by f rows out) Illegal out
-      unfolding is_message
-      written_unheld h = refused (rw (ne_eqb (length rows) (many_in f.body * row_size) (λ q. h (q ∙ ap (λ (n : ℕ). n * row_size) (sym e)))))
-
-      module _ (held : length rows ≡ count * row_size) where
-        -- There is a row for each entry.
-        pub rows_held : many_in f.body * row_size ≤ length rows
-        rows_held = omega (arith, held, e)
-
-        legal_decides : is_message f rows ≡ legal_message (message_with f rows)
-        unfolding is_message
-        legal_decides = rw (eq-eqb (length rows) (many_in f.body * row_size) (held ∙ ap (λ (n : ℕ). n * row_size) e))
-
-        module _ (r : Bool) (tested : r ≡ legal_message (message_with f rows)) where
-          -- The message is not legal.
-          pub written_illegal : r ≡ false → WritesText (written_by f rows out) Illegal out
-          written_illegal h = refused (legal_decides ∙ sym tested ∙ h)
-
-          module _ (legal : r ≡ true) where
-            -- It can be put.
-            pub written_puts : Puts f rows out
-            written_puts = record { legal = sym tested ∙ legal; held = rows_held; room = omega (arith, r=, long) }
-
-            -- It is written.
-            pub written_message :
-                {n : ℕ} {after : List ℕ} → Wrote out 0 (text (message_with f rows)) n after → WritesText (written_by f rows out) (Message n) after
-            unfolding written_by
-            written_message w =
-                let s = text (message_with f rows) in
-                let fits : 0 + length s ≤ length out = omega (arith, text_most (message_with f rows) written_puts.legal, written_puts.room) in
-                rw (not_short, legal_decides ∙ sym tested ∙ legal)
-                (record {
-                  outcome_is = refl;
-                  bytes_is = w.to ∙ zero-add (length s);
-                  out_is = w.text ∙ sets-eq s out 0 fits ∙ ap (λ (k : ℕ). s ++ drop k out) (zero-add (length s));
-                })
+-- It is what is promised, where there is a row for each entry, the message is legal, and the output is long enough.
+pub written_message :
+    {n : ℕ} {after : List ℕ} (f : Fields) (rows out : List ℕ) → length rows ≡ many_in f.body * row_size → legal_message (message_with f rows) ≡ true
+    → text_room ≤ length out → Wrote out 0 (text (message_with f rows)) n after → WritesText (written_by f rows out) (Ok n) after
+unfolding written_by is_message
+written_message f rows out held legal long w =
+    let s = text (message_with f rows) in
+    let fits : 0 + length s ≤ length out = omega (arith, text_most (message_with f rows) legal, long) in
+    rw (le-ltb (length out) text_room long, eq-eqb (length rows) (many_in f.body * row_size) held, legal)
+    (record {
+      outcome_is = refl;
+      bytes_is = w.to ∙ zero-add (length s);
+      out_is = w.text ∙ sets-eq s out 0 fits ∙ ap (λ (k : ℕ). s ++ drop k out) (zero-add (length s));
+    })
 
 -- ---- no second answer
 
-answers_same : (r r' : Write) → write_outcome r ≡ write_outcome r' → write_bytes r ≡ write_bytes r' → r ≡ r'
-answers_same (Message n) (Message m) p q = ap Message q
-answers_same (Message n) Short p q = absurd (omega arith)
-answers_same (Message n) Illegal p q = absurd (omega arith)
-answers_same Short (Message m) p q = absurd (omega arith)
-answers_same Short Short p q = refl
-answers_same Short Illegal p q = absurd (omega arith)
-answers_same Illegal (Message m) p q = absurd (omega arith)
-answers_same Illegal Short p q = absurd (omega arith)
-answers_same Illegal Illegal p q = refl
+refusal_with : ℕ → Refusal
+refusal_with n =
+    cond (eqb n 1) NotKnown
+    (cond (eqb n 2) BadState
+    (cond (eqb n 3) ShortOutput
+    (cond (eqb n 4) BadMessage
+    (cond (eqb n 5) NotAddressed
+    (cond (eqb n 6) Stale
+    (cond (eqb n 7) Contradicting
+    (cond (eqb n 8) WrongRole
+    (cond (eqb n 9) NoTermLeft
+    (cond (eqb n 10) BadCommand
+    (cond (eqb n 11) LogFull
+    (cond (eqb n 12) OutOfRange
+    (cond (eqb n 13) NothingNew (cond (eqb n 14) NotPlayable (cond (eqb n 15) BadCalibration BadElapsed))))))))))))))
+
+-- An outcome and the bytes tell an answer.
+answer_with : ℕ → ℕ → Result ℕ Refusal
+answer_with outcome bytes = cond (eqb outcome done) (Ok bytes) (Err (refusal_with outcome))
+
+answer_back : (r : Result ℕ Refusal) → answer_with (outcome_of r) (write_bytes r) ≡ r
+unfolding answer_with refusal_with
+answer_back (Ok n) = refl
+answer_back (Err NotKnown) = refl
+answer_back (Err BadState) = refl
+answer_back (Err ShortOutput) = refl
+answer_back (Err BadMessage) = refl
+answer_back (Err NotAddressed) = refl
+answer_back (Err Stale) = refl
+answer_back (Err Contradicting) = refl
+answer_back (Err WrongRole) = refl
+answer_back (Err NoTermLeft) = refl
+answer_back (Err BadCommand) = refl
+answer_back (Err LogFull) = refl
+answer_back (Err OutOfRange) = refl
+answer_back (Err NothingNew) = refl
+answer_back (Err NotPlayable) = refl
+answer_back (Err BadCalibration) = refl
+answer_back (Err BadElapsed) = refl
+
+answers_same : (r r' : Result ℕ Refusal) → outcome_of r ≡ outcome_of r' → write_bytes r ≡ write_bytes r' → r ≡ r'
+answers_same r r' p q = sym (answer_back r) ∙ ap₂ answer_with p q ∙ answer_back r'
 
 -- Two answers that meet the promise of writing a message are the same.
-pub writes_unique : {w : Written} {r r' : Write} {out out' : List ℕ} → WritesText w r out → WritesText w r' out' → (r ≡ r') × (out ≡ out')
+pub writes_unique : {w : Written} {r r' : Result ℕ Refusal} {out out' : List ℕ} → WritesText w r out → WritesText w r' out' → (r ≡ r') × (out ≡ out')
 writes_unique {w} {r} {r'} p q =
     (answers_same r r' (p.outcome_is ∙ sym q.outcome_is) (p.bytes_is ∙ sym q.bytes_is), p.out_is ∙ sym q.out_is)
 
@@ -146,5 +159,5 @@ module _ (f : Fields) (rows out : List ℕ) where
       rw w.1 (text_most (message_with f rows) w.0)
 
   -- Of what `write_message` leaves, the bytes that it answers are read back.
-  pub writes_back : {after : List ℕ} {n : ℕ} → WritesText (written_by f rows out) (Message n) after → ReadBack f rows (take n after)
+  pub writes_back : {after : List ℕ} {n : ℕ} → WritesText (written_by f rows out) (Ok n) after → ReadBack f rows (take n after)
   writes_back w = rw (w.bytes_is, w.out_is) (written_back (sym w.outcome_is))

@@ -1,15 +1,15 @@
 -- What writing a message alone answers (rule R35): an illegal message is 4, too short an output 3.
 -- Assumes nothing.
-use Rattle.std.specs.Prelude.{ℕ, ◌*◌, Bool, cond, ◌&&◌, List, ◌++◌, ◌≡◌, ltb, eqb, length, drop}
+use Rattle.std.specs.Prelude.{ℕ, ◌*◌, Bool, cond, ◌&&◌, List, ◌++◌, ◌≡◌, ltb, eqb, length, drop, Result, Ok, Err}
 use Rattle.kinds.specs.Outcome.{done, short_output, bad_message}
+use Rattle.kinds.specs.Refusal.{outcome_of}
 use Rattle.kinds.specs.Sizes.{text_room, row_size}
+use Rattle.kinds.specs.declared.Refusal.{Refusal}
 use Rattle.message.specs.Legal.{legal_message}
 use Rattle.message.specs.Text.{text}
 use Rattle.message.specs.Answer.{many_in}
 use Rattle.message.specs.Write.{message_with}
 use Rattle.message.specs.declared.Fields.{Fields}
-use Rattle.alone.specs.declared.Write.{Write}
-use Rattle.alone.specs.declared.Write.TheVariants.{Message, Short, Illegal}
 
 -- Whether fields and rows are a message that can be written: a row for each entry and no other, and legal.
 unfoldable pub is_message : Fields → List ℕ → Bool
@@ -37,19 +37,13 @@ written_by f rows out =
 
 -- ---- the promise
 
--- The outcome of each case of the answer, and the bytes of the text.
-abbrev pub write_outcome : Write → ℕ
-write_outcome (Message n) = done
-write_outcome Short = short_output
-write_outcome Illegal = bad_message
-
-abbrev pub write_bytes : Write → ℕ
-write_bytes (Message n) = n
-write_bytes Short = 0
-write_bytes Illegal = 0
+-- The bytes of the text.
+abbrev pub write_bytes : Result ℕ Refusal → ℕ
+write_bytes (Ok n) = n
+write_bytes (Err _) = 0
 
 -- An answer and what is left in the output are as they have to be.
-pub record WritesText (w : Written) (r : Write) (out : List ℕ) : Type 0 where
-  pub outcome_is : write_outcome r ≡ w.outcome
+pub record WritesText (w : Written) (r : Result ℕ Refusal) (out : List ℕ) : Type 0 where
+  pub outcome_is : outcome_of r ≡ w.outcome
   pub bytes_is : write_bytes r ≡ w.bytes
   pub out_is : out ≡ w.out

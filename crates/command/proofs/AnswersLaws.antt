@@ -4,17 +4,17 @@ use native.Mathlib.Omega.{arith}
 use native.Mathlib.Nat.{add-zero}
 use mathlib.Core.Path.{◌≡◌, refl, sym, ◌∙◌, ap}
 use mathlib.Core.Logic.{⊎_elim}
-use mathlib.Core.Bool.{Bool, true, false, not, ◌&&◌, ◌||◌, and-false}
+use mathlib.Core.Bool.{Bool, true, false, ◌&&◌, ◌||◌, and-false}
 use mathlib.Core.List.{List, [], ◌++◌, append_assoc, append-nil}
-use borrow.Author.Tests.{leb-true, ltb-true, eqb-true, eq-eqb, ne_eqb, lt-ltb, le-ltb, not-true, not-false}
+use borrow.Author.Tests.{leb-true, ltb-true, eqb-true, eq-eqb, ne_eqb, lt-ltb, le-ltb}
 use lib.Dec.{leb, eqb}
+use Rattle.std.specs.Prelude.{Ok, Err}
 use lib.IntN.{ℤ, pos, negsuc}
 use lib.ListN.{length, drop}
 use lib.Seq.{sets, sets-eq}
 use lib.Signed.{lt_z}
 use mir.Syntax.{w32}
 use mir.Val.{SFits, to_z, of_z}
-use mir.Facts.{to_z-of_z}
 use Rattle.kinds.specs.Sizes.{between}
 use Rattle.command.specs.Words.{word, part, word_at, signed, unsigned}
 use Rattle.command.specs.Command.{
@@ -30,18 +30,25 @@ use Rattle.command.specs.Command.{
   command_bytes,
   command_of,
 }
-use Rattle.command.specs.Case.{command_is, motion_of}
+use Rattle.command.specs.Case.{kind_of, a_of, b_of, command_is, motion_of}
+use Rattle.command.specs.declared.Case.{Case}
 use Rattle.command.specs.declared.Motion.{Motion}
 use Rattle.kinds.specs.Outcome.{done, short_output, bad_command}
+use Rattle.kinds.specs.Refusal.{number_of}
+use Rattle.kinds.specs.declared.Refusal.{Refusal}
+use Rattle.kinds.specs.declared.Refusal.TheVariants.{BadCommand}
+use Rattle.kinds.proofs.Clash.{clash}
 use Rattle.command.specs.Answers.{
   command_with,
   of_numbers,
   of_words,
   numbers_at,
   is_command,
+  numbers_in,
   motion_read,
   judged_outcome,
   ReadsCommand,
+  command_numbers,
   list_of,
   as_numbers,
   numbers_read,
@@ -50,9 +57,8 @@ use Rattle.command.specs.Answers.{
   IsResult,
 }
 use Rattle.command.specs.declared.Numbers.{Numbers}
-use Rattle.command.specs.declared.Read.TheVariants.{Legal, Illegal}
 use Rattle.command.proofs.Tests.{by_test, both}
-use Rattle.command.proofs.WordsLaws.{Bytes, word_join, word_at_halves, word_at_below, word_at_part, part_last, word_then, signed_unsigned, unsigned_signed}
+use Rattle.command.proofs.WordsLaws.{Bytes, word_join, word_at_halves, word_at_below, word_at_part, part_last, word_then, unsigned_signed, signed_cast}
 use Rattle.command.proofs.CommandLaws.{is_duration_signed, is_zero_signed, legal_fields, legal_ranged, command_bytes_length, command_bytes_of, command_of_bytes}
 use Rattle.command.proofs.CaseLaws.{Floats, command_is_motion, motion_of_command}
 
@@ -125,31 +131,30 @@ legal_small n h =
     l.kinds
 
 -- A command whose duration is below zero is not legal.
-pub negative_illegal : (motor kind a b : ℕ) (d : ℤ) → SFits w32 d → lt_z (to_z w32 (of_z w32 d)) (pos 0) ≡ true →
-    legal_command (command_with motor kind d a b) ≡ false
+pub negative_illegal : (motor kind a b : ℕ) (d : ℤ) → lt_z d (pos 0) ≡ true → legal_command (command_with motor kind d a b) ≡ false
 unfolding legal_command is_stop is_buzz is_ramp is_zero is_duration
-negative_illegal motor kind a b (pos n) fits h = absurd (omega (arith, ltb-true n 0 (rw (to_z-of_z fits) at h)))
-negative_illegal motor kind a b (negsuc n) fits h = simp and-false
+negative_illegal motor kind a b (pos n) h = absurd (omega (arith, ltb-true n 0 h))
+negative_illegal motor kind a b (negsuc n) h = simp and-false
 
 -- Numbers whose duration is given by the bits of d are those of a command of duration d.
-pub of_numbers_with : (motor kind x a b : ℕ) (d : ℤ) → SFits w32 d → x ≡ unsigned (to_z w32 (of_z w32 d)) →
+pub of_numbers_with : (motor kind x a b : ℕ) (d : ℤ) → SFits w32 d → x ≡ of_z w32 (to_z w32 (of_z w32 d)) →
     of_numbers (record { motor = motor; kind = kind; duration = x; a = a; b = b }) ≡ command_with motor kind d a b
 unfolding of_numbers
-of_numbers_with motor kind x a b d fits e =
-    let same : signed x ≡ d = ap signed (e ∙ ap unsigned (to_z-of_z fits)) ∙ signed_unsigned d fits.sfits in
-    ap (λ (t : ℤ). command_with motor kind t a b) same
+of_numbers_with motor kind x a b d fits e = ap (λ (t : ℤ). command_with motor kind t a b) (signed_cast d x fits e)
+
+-- The kind of a case and its two values.
+abbrev pub values : Case → ℕ × ℕ × ℕ
+values case = (kind_of case, a_of case, b_of case)
+
+-- The numbers of a motion are those of its command.
+pub of_numbers_from : (m : Motion) (motor x : ℕ) (t : ℕ × ℕ × ℕ) → SFits w32 m.duration → motor ≡ m.motor → t ≡ values m.case → x ≡ of_z w32 (to_z w32 (of_z w32 m.duration)) →
+    of_numbers (record { motor = motor; kind = t.0; duration = x; a = t.1; b = t.2 }) ≡ command_is m
+unfolding of_numbers command_is
+of_numbers_from m motor x t fits e f g =
+    let d = signed_cast m.duration x fits g in
+    λ i. record { motor = e i; kind = (f i).0; duration = d i; a = (f i).1; b = (f i).2 }
 
 -- ---- reading
-
-legal_same : (m n : Motion) → Legal m ≡ Legal n → m ≡ n
-legal_same m n h = cc
-
-never_illegal : (m : Motion) → Legal m ≡ Illegal → ⊥
-never_illegal m h = let z : ◌≡◌ {A = ℕ} 0 1 = cc in omega arith
-
--- What a test told, turned round.
-pub told_legal : (n : Numbers) (b : Bool) → b ≡ legal_command (of_numbers n) → not b ≡ false → legal_command (of_numbers n) ≡ true
-told_legal n b b_is t = sym b_is ∙ not-false b t
 
 module _ (l : List ℕ) where
   pub is_command_size : (length l ≡ 16 → ⊥) → is_command l ≡ false
@@ -172,44 +177,68 @@ module _ (l : List ℕ) where
   pub of_numbers_whole : length l ≡ 16 → of_numbers (numbers_at 0 l) ≡ command_of l
   of_numbers_whole h = of_numbers_at 0 l ∙ ap command_of (part_last 0 16 l (omega arith))
 
-  motion_read_legal : is_command l ≡ true → motion_read l ≡ Legal (motion_of (command_of l))
+  motion_read_legal : is_command l ≡ true → motion_read l ≡ Ok (motion_of (command_of l))
   unfolding motion_read
   motion_read_legal h = rw h
 
-  motion_read_illegal : is_command l ≡ false → motion_read l ≡ Illegal
+  motion_read_illegal : is_command l ≡ false → motion_read l ≡ Err BadCommand
   unfolding motion_read
   motion_read_illegal h = rw h
 
-  reads_none : is_command l ≡ false → ReadsCommand l Illegal
-  unfolding judged_outcome
-  reads_none h = record { answer = sym (motion_read_illegal h); outcome = rw h }
+  -- Bytes that are not 16 are refused.
+  pub numbers_in_size : (length l ≡ 16 → ⊥) → Err BadCommand ≡ numbers_in l
+  unfolding numbers_in
+  numbers_in_size h = rw (is_command_size h)
 
-  -- Bytes that are not 16 are refused, with outcome 10.
-  pub reads_size : (length l ≡ 16 → ⊥) → ReadsCommand l Illegal
-  reads_size h = reads_none (is_command_size h)
-
-  -- Of 16 bytes, by their numbers and the test of these:
+  -- Of 16 bytes, by their numbers and the test of these: those of no legal command too.
   module _ (n : Numbers) (b : Bool) (h : length l ≡ 16) (n_is : n ≡ numbers_at 0 l) (b_is : b ≡ legal_command (of_numbers n)) where
-    command_is_lem : of_numbers n ≡ command_of l
-    command_is_lem = ap of_numbers n_is ∙ of_numbers_whole h
-
     judged : is_command l ≡ b
     unfolding is_command
-    judged = rw (eq-eqb (length l) 16 h) (sym (b_is ∙ ap legal_command command_is_lem))
+    judged = rw (eq-eqb (length l) 16 h) (sym (b_is ∙ ap legal_command (ap of_numbers n_is ∙ of_numbers_whole h)))
 
-    -- those of no legal command are refused so too,
-    pub reads_illegal : not b ≡ true → ReadsCommand l Illegal
-    reads_illegal t = reads_none (judged ∙ not-true b t)
+    pub numbers_in_illegal : b ≡ false → Err BadCommand ≡ numbers_in l
+    unfolding numbers_in
+    numbers_in_illegal t = rw (judged ∙ t)
 
-    -- and the motion of a legal one is answered, with outcome 0.
-    pub reads_legal : (m : Motion) → not b ≡ false → m ≡ motion_of (of_numbers n) → ReadsCommand l (Legal m)
+    pub numbers_in_legal : b ≡ true → Ok n ≡ numbers_in l
+    unfolding numbers_in
+    numbers_in_legal t = rw (judged ∙ t) (ap Ok n_is)
+
+  -- What is refused is no command, with outcome 10,
+  module _ (r : Refusal) (e : Err r ≡ numbers_in l) where
+    pub refused_illegal : (is_command l ≡ false) × (r ≡ BadCommand)
+    unfolding numbers_in
+    refused_illegal =
+        by_test (is_command l) (λ t. let f : Err r ≡ Ok (numbers_at 0 l) = rw t at e in clash cc)
+        (λ t. (t, let f : Err r ≡ Err BadCommand = rw t at e in cc))
+
+    pub reads_illegal : ReadsCommand l (Err r)
     unfolding judged_outcome
-    reads_legal m t m_is =
-        let yes : is_command l ≡ true = judged ∙ not-false b t in
-        record { answer = ap Legal (m_is ∙ ap motion_of command_is_lem) ∙ sym (motion_read_legal yes); outcome = rw yes }
+    reads_illegal =
+        let no = refused_illegal.0 in
+        record { answer = ap Err refused_illegal.1 ∙ sym (motion_read_illegal no); outcome = rw (no, refused_illegal.1) }
+
+  -- and the numbers are those of a legal command, whose motion is answered, with outcome 0.
+  module _ (n : Numbers) (e : Ok n ≡ numbers_in l) where
+    pub numbers_legal : (is_command l ≡ true) × (n ≡ numbers_at 0 l)
+    unfolding numbers_in
+    numbers_legal =
+        by_test (is_command l) (λ t. (t, let f : Ok n ≡ Ok (numbers_at 0 l) = rw t at e in cc))
+        (λ t. let f : Ok n ≡ Err BadCommand = rw t at e in clash cc)
+
+    of_numbers_read : of_numbers n ≡ command_of l
+    of_numbers_read = ap of_numbers numbers_legal.1 ∙ of_numbers_whole (is_command_length numbers_legal.0)
+
+    pub numbers_in_are_legal : legal_command (of_numbers n) ≡ true
+    numbers_in_are_legal = ap legal_command of_numbers_read ∙ is_command_legal numbers_legal.0
+
+    pub reads_legal : (m : Motion) → m ≡ motion_of (of_numbers n) → ReadsCommand l (Ok m)
+    unfolding judged_outcome
+    reads_legal m m_is =
+        record { answer = ap Ok (m_is ∙ ap motion_of of_numbers_read) ∙ sym (motion_read_legal numbers_legal.0); outcome = rw numbers_legal.0 }
 
 -- A motion whose command is legal is read back from that command's bytes.
-pub motion_read_written : (m : Motion) → Floats m.case → legal_command (command_is m) ≡ true → motion_read (command_bytes (command_is m)) ≡ Legal m
+pub motion_read_written : (m : Motion) → Floats m.case → legal_command (command_is m) ≡ true → motion_read (command_bytes (command_is m)) ≡ Ok m
 unfolding is_command
 motion_read_written m floats legal =
     let l = command_bytes (command_is m) in
@@ -217,19 +246,19 @@ motion_read_written m floats legal =
     rw append-nil at (command_of_bytes (command_is m) [] (legal_ranged (command_is m) legal)) in
     let sized : eqb (length l) command_size ≡ true = eq-eqb (length l) 16 (command_bytes_length (command_is m)) in
     let is : is_command l ≡ true = rw (sized, same, legal) in
-    motion_read_legal l is ∙ ap Legal (ap motion_of same ∙ motion_of_command m floats)
+    motion_read_legal l is ∙ ap Ok (ap motion_of same ∙ motion_of_command m floats)
 
 -- What is read as a motion is that motion's command's bytes, and legal.
-pub motion_read_sound : (l : List ℕ) (m : Motion) → Bytes l → motion_read l ≡ Legal m →
+pub motion_read_sound : (l : List ℕ) (m : Motion) → Bytes l → motion_read l ≡ Ok m →
     (command_bytes (command_is m) ≡ l) × (legal_command (command_is m) ≡ true)
 motion_read_sound l m bytes h =
     by_test (is_command l)
     (λ is.
     let legal = is_command_legal l is in
-    let e : m ≡ motion_of (command_of l) = legal_same m (motion_of (command_of l)) (sym h ∙ motion_read_legal l is) in
+    let e : m ≡ motion_of (command_of l) = (let f : Ok m ≡ Ok (motion_of (command_of l)) = sym h ∙ motion_read_legal l is in cc) in
     let same : command_is m ≡ command_of l = ap command_is e ∙ command_is_motion (command_of l) legal in
     (ap command_bytes same ∙ command_bytes_of l (is_command_length l is) bytes, ap legal_command same ∙ legal))
-    (λ is-not. absurd (never_illegal m (sym h ∙ motion_read_illegal l is-not)))
+    (λ is-not. let f : Ok m ≡ Err BadCommand = sym h ∙ motion_read_illegal l is-not in clash cc)
 
 -- ---- writing
 
@@ -242,15 +271,13 @@ module _ (c : Command) (out : List ℕ) where
   unfolding command_written
   command_written_illegal h no-legal = rw (le-ltb (length out) 16 h, no-legal) (record { outcome_is = refl; out_is = refl })
 
-  -- The command that was tested and written may be another form of the same one.
-  pub command_written_done : {c' : Command} {out' : List ℕ} → c' ≡ c → 16 ≤ length out → legal_command c' ≡ true → out' ≡ sets out 0 (command_bytes c') →
+  pub command_written_done : {out' : List ℕ} → 16 ≤ length out → legal_command c ≡ true → out' ≡ sets out 0 (command_bytes c) →
       IsResult (command_written c out) done out'
   unfolding command_written
-  command_written_done same h legal wrote =
+  command_written_done h legal wrote =
       let e : sets out 0 (command_bytes c) ≡ command_bytes c ++ drop 16 out =
       rw command_bytes_length at (sets-eq (command_bytes c) out 0 (rw command_bytes_length (omega arith))) in
-      rw (le-ltb (length out) 16 h, ap legal_command (sym same) ∙ legal)
-      (record { outcome_is = refl; out_is = wrote ∙ ap (λ (d : Command). sets out 0 (command_bytes d)) same ∙ e })
+      rw (le-ltb (length out) 16 h, legal) (record { outcome_is = refl; out_is = wrote ∙ e })
 
 -- The four words of a command, one write after another.
 pub four_writes : (motor kind : ℕ) (duration : ℤ) (a b : ℕ) (out : List ℕ) → kind < 65_536 →
@@ -289,18 +316,19 @@ module _ (l numbers : List ℕ) where
   unfolding numbers_read
   numbers_read_short h = rw (lt-ltb (length numbers) 5 h) (record { outcome_is = refl; out_is = refl })
 
-  pub numbers_read_illegal : 5 ≤ length numbers → is_command l ≡ false → IsResult (numbers_read l numbers) bad_command numbers
+  pub numbers_read_illegal : (r : Refusal) → 5 ≤ length numbers → Err r ≡ numbers_in l → IsResult (numbers_read l numbers) (number_of r) numbers
   unfolding numbers_read
-  numbers_read_illegal h no-command = rw (le-ltb (length numbers) 5 h, no-command) (record { outcome_is = refl; out_is = refl })
+  numbers_read_illegal r h e =
+      let no = refused_illegal l r e in
+      rw (le-ltb (length numbers) 5 h, no.0) (record { outcome_is = ap number_of no.1; out_is = refl })
 
-  pub numbers_read_done : {numbers' : List ℕ} → 5 ≤ length numbers → Bytes l → is_command l ≡ true → numbers' ≡ sets numbers 0 (list_of (numbers_at 0 l)) →
-      IsResult (numbers_read l numbers) done numbers'
+  pub numbers_read_done : (n : Numbers) (five : List ℕ) → 5 ≤ length numbers → Bytes l → Ok n ≡ numbers_in l → five ≡ list_of n →
+      IsResult (numbers_read l numbers) done (five ++ drop command_numbers numbers)
   unfolding numbers_read
-  numbers_read_done h bytes is put =
-      let e = sets-eq (as_numbers (command_of l)) numbers 0 (omega arith) in
-      let same = numbers_listed l (is_command_length l is) bytes in
-      rw (le-ltb (length numbers) 5 h, is)
-      (record { outcome_is = refl; out_is = put ∙ ap (λ (ns : List ℕ). sets numbers 0 ns) same ∙ e })
+  numbers_read_done n five h bytes e f =
+      let legal = numbers_legal l n e in
+      let same = f ∙ ap list_of legal.1 ∙ numbers_listed l (is_command_length l legal.0) bytes in
+      rw (le-ltb (length numbers) 5 h, legal.0) (record { outcome_is = refl; out_is = ap (λ (ns : List ℕ). ns ++ drop command_numbers numbers) same })
 
 -- Two answers that meet a promise are the same.
 pub result_unique : {w : CallResult} {r r' : ℕ} {out out' : List ℕ} → IsResult w r out → IsResult w r' out' → (r ≡ r') × (out ≡ out')

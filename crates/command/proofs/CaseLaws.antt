@@ -1,14 +1,13 @@
 -- Laws of a command's case: a legal command and its motion give each other back, gains by their bits; and no NaN is a gain. Assumes nothing.
-use Prim.Native.Nat.{ℕ, zero, suc, ◌≤◌, ◌<◌, ◌%◌}
+use Prim.Native.Nat.{ℕ, zero, suc, ◌≤◌, ◌%◌}
 use native.Mathlib.Omega.{arith}
 use native.Mathlib.Nat.{mod-eq_of_lt}
 use mathlib.Core.Path.{◌≡◌, refl, sym, ◌∙◌, ap, subst}
 use mathlib.Core.Logic.{⊎_elim}
-use mathlib.Core.Bool.{Bool, true, false, not, false≢true}
-use borrow.Author.Tests.{le-ltb, lt-ltb}
+use mathlib.Core.Bool.{Bool, true, false, not}
+use borrow.Author.Tests.{le-ltb}
 use lib.Dec.{T, ltb}
-use lib.Ieee.{Float, nan, inf, fin, ne, eq, binary32, to_bits, of_bits, is_nan, nan_bits, div, fits}
-use lib.Ieee.Compare.{differs_from_itself}
+use lib.Ieee.{nan, binary32, to_bits, of_bits, is_nan, nan_bits, fits}
 use lib.Ieee.Bits.{nan_bits_above, nan_bits_is, to_bits-of_bits, of_bits-to_bits}
 use Rattle.command.specs.Command.{Command, is_gain, legal_command}
 use Rattle.command.specs.Case.{kind_of, a_of, b_of, command_is, case_of, motion_of}
@@ -24,37 +23,8 @@ pub nan_is_no_gain : is_gain (to_bits binary32 nan) ≡ false
 unfolding is_gain to_bits
 nan_is_no_gain = refl
 
--- A float that equals itself is no NaN.
-pub same_no_nan : (x : Float) → ne x x ≡ false → T (not (is_nan x))
-unfolding is_nan ne eq
-same_no_nan nan h = false≢true (sym h)
-same_no_nan (inf s) h = tt
-same_no_nan (fin s m e) h = tt
-
--- A float that differs from itself has the bits of the quiet NaN.
-pub differs_bits : (x : Float) → ne x x ≡ true → to_bits binary32 x ≡ 0x7fc0_0000
-unfolding to_bits
-differs_bits x h = ap (to_bits binary32) (differs_from_itself x (rw h tt))
-
--- A NaN, worked out.
-nought_over_nought : div binary32 (of_bits binary32 0) (of_bits binary32 0) ≡ nan
-unfolding div of_bits
-nought_over_nought = refl
-
-nan_is : (x : Float) → is_nan x ≡ true → x ≡ nan
-unfolding is_nan
-nan_is nan h = refl
-nan_is (inf s) h = absurd (false≢true h)
-nan_is (fin s m e) h = absurd (false≢true h)
-
 module _ (bits : ℕ) where
-  -- Bits that, without their sign, are above the infinity's are a NaN's,
-  pub bits_nan : 0x7f80_0000 < bits % 0x8000_0000 → div binary32 (of_bits binary32 0) (of_bits binary32 0) ≡ of_bits binary32 bits
-  bits_nan h =
-      let t : nan_bits binary32 bits ≡ true = nan_bits_above binary32 bits ∙ lt-ltb 0x7f80_0000 (bits % 0x8000_0000) h in
-      nought_over_nought ∙ sym (nan_is (of_bits binary32 bits) (sym (nan_bits_is binary32 bits) ∙ t))
-
-  -- and others are not.
+  -- Bits that, without their sign, are not above the infinity's are no NaN's.
   pub bits_no_nan : bits % 0x8000_0000 ≤ 0x7f80_0000 → T (not (nan_bits binary32 bits))
   bits_no_nan h =
       let t : nan_bits binary32 bits ≡ false = nan_bits_above binary32 bits ∙ le-ltb 0x7f80_0000 (bits % 0x8000_0000) h in
@@ -66,6 +36,9 @@ module _ (bits : ℕ) (h : bits ≤ 0x3f80_0000) where
   gain_no_nan =
       let small : bits % 0x8000_0000 ≡ bits = mod-eq_of_lt (omega arith) in
       nan_bits_above binary32 bits ∙ ap (λ (k : ℕ). ltb 0x7f80_0000 k) small ∙ le-ltb 0x7f80_0000 bits (omega arith)
+
+  pub gain_real : T (not (nan_bits binary32 bits))
+  gain_real = rw gain_no_nan tt
 
   -- The float of a gain's bits has these bits.
   pub gain_back : to_bits binary32 (of_bits binary32 bits) ≡ bits

@@ -5,3 +5,4 @@ pub mod CaseLaws
 pub mod AnswersLaws
 pub mod EntryLaws
 pub mod ProposalLaws
+pub mod CastLaws

@@ -4,17 +4,16 @@ use Prim.Native.Nat.{ℕ, zero, suc, ◌+◌, ◌-◌, ◌*◌, ◌/◌, ◌%◌
 use native.Mathlib.Omega.{arith}
 use native.Mathlib.Nat.{pow-suc, zero-add, add-suc, div-div-eq-div-mul, add-zero, div-add-mod', div-lt_iff_lt-mul, mul-add-div_right, mul-add-mod_self_right, mod-lt, mul-le-mul_right, mul_assoc, pow-succ', lt_of_lt_of_le}
 use mathlib.Core.Path.{◌≡◌, refl, sym, ◌∙◌, ap}
-use mathlib.Core.Bool.{false, true≢false}
 use mathlib.Core.List.{List, [], ◌∷◌, ◌++◌, append_assoc, append-nil}
 use borrow.Author.Tests.{lt-ltb, le-ltb, ltb-true, ltb-false}
-use lib.Dec.{T, ltb}
-use lib.IntN.{ℤ, pos, negsuc, nat_abs}
-use lib.Signed.{mag, non_neg, lt_z}
+use lib.Dec.{ltb}
+use lib.IntN.{ℤ, pos, negsuc}
+use lib.Signed.{mag}
 use lib.ListN.{length, take, drop, get_or, set, length-append, length-take, length-drop, take-append-drop, get_or-eq_default}
 use lib.Seq.{sets, take-suc, get_or-take, get_or-drop, take_at, drop_at, drop-drop, take-take, take_all}
 use mir.Syntax.{w32}
-use mir.Val.{Fits, SFits, of_z, to_z}
-use mir.Facts.{to_z-of_z, Fits-nat_abs}
+use mir.Val.{SFits, of_z, to_z}
+use mir.Facts.{to_z-of_z}
 use Rattle.command.proofs.Tests.{by_test}
 use Rattle.command.specs.Words.{word, value, part, word_at, signed, unsigned}
 
@@ -259,13 +258,8 @@ to_z_signed x =
     let e : 4_294_967_296 - suc x ≡ 4_294_967_295 - x = omega arith in
     rw high (ap negsuc e ∙ sym (signed_high x (ltb-false _ _ high))))
 
--- The code's cast of a signed number that is not below zero: it keeps the number,
-pub cast_kept : (d : ℤ) → SFits w32 d → lt_z d (pos 0) ≡ false → T (non_neg (to_z w32 (of_z w32 d))) × Fits w32 (nat_abs (to_z w32 (of_z w32 d)))
-cast_kept (pos n) fits h = rw (to_z-of_z fits) (tt, Fits-nat_abs tt fits)
-cast_kept (negsuc n) fits h = absurd (true≢false h)
-
--- and its bits.
-pub cast_unsigned : (d : ℤ) → SFits w32 d → lt_z d (pos 0) ≡ false → nat_abs (to_z w32 (of_z w32 d)) ≡ unsigned d
-unfolding unsigned
-cast_unsigned (pos n) fits h = ap nat_abs (to_z-of_z fits)
-cast_unsigned (negsuc n) fits h = absurd (true≢false h)
+-- A number is what the bits that the code casts it to stand for.
+pub signed_cast : (d : ℤ) (x : ℕ) → SFits w32 d → x ≡ of_z w32 (to_z w32 (of_z w32 d)) → signed x ≡ d
+signed_cast d x fits e =
+    let back : to_z w32 (of_z w32 d) ≡ d = to_z-of_z fits in
+    ap signed e ∙ sym (to_z_signed (of_z w32 (to_z w32 (of_z w32 d)))) ∙ ap (λ (z : ℤ). to_z w32 (of_z w32 z)) back ∙ back

@@ -1,12 +1,14 @@
 -- What reading and writing a command alone answer (rule R35): an illegal command is 10, too short an output, or too few lent numbers, 3.
 -- Assumes nothing.
-use Rattle.std.specs.Prelude.{ℕ, ◌+◌, ◌/◌, ◌%◌, Bool, cond, ◌&&◌, List, [], ◌∷◌, ◌++◌, ◌≡◌, ltb, eqb, ℤ, length, drop}
+use Rattle.std.specs.Prelude.{ℕ, ◌+◌, ◌/◌, ◌%◌, Bool, cond, ◌&&◌, List, [], ◌∷◌, ◌++◌, ◌≡◌, ltb, eqb, ℤ, Result, Ok, Err, length, drop}
 use Rattle.kinds.specs.Outcome.{done, short_output, bad_command}
+use Rattle.kinds.specs.Refusal.{outcome_of}
+use Rattle.kinds.specs.declared.Refusal.{Refusal}
+use Rattle.kinds.specs.declared.Refusal.TheVariants.{BadCommand}
 use Rattle.command.specs.Words.{word_at, signed, unsigned}
 use Rattle.command.specs.Command.{Command, legal_command, command_size, command_bytes, command_of}
 use Rattle.command.specs.Case.{motion_of}
-use Rattle.command.specs.declared.Read.{Read}
-use Rattle.command.specs.declared.Read.TheVariants.{Legal, Illegal}
+use Rattle.command.specs.declared.Motion.{Motion}
 use Rattle.command.specs.declared.Numbers.{Numbers}
 
 -- ---- the numbers of a command
@@ -40,23 +42,22 @@ numbers_at at l =
 unfoldable pub is_command : List ℕ → Bool
 is_command l = eqb (length l) command_size && legal_command (command_of l)
 
--- A legal command's motion; any other bytes are refused.
-unfoldable pub motion_read : List ℕ → Read
-motion_read l = cond (is_command l) (Legal (motion_of (command_of l))) Illegal
+-- A legal command's numbers; any other bytes are refused.
+unfoldable pub numbers_in : List ℕ → Result Numbers Refusal
+numbers_in l = cond (is_command l) (Ok (numbers_at 0 l)) (Err BadCommand)
 
--- The outcome of each case of the answer (rule R35).
-abbrev pub command_outcome : Read → ℕ
-command_outcome (Legal m) = done
-command_outcome Illegal = bad_command
+-- A legal command's motion; any other bytes are refused.
+unfoldable pub motion_read : List ℕ → Result Motion Refusal
+motion_read l = cond (is_command l) (Ok (motion_of (command_of l))) (Err BadCommand)
 
 -- The outcome of reading: bytes that are no legal command are 10.
 unfoldable pub judged_outcome : List ℕ → ℕ
 judged_outcome l = cond (is_command l) done bad_command
 
 -- The answer r to the bytes l, and its outcome.
-pub record ReadsCommand (l : List ℕ) (r : Read) : Type 0 where
+pub record ReadsCommand (l : List ℕ) (r : Result Motion Refusal) : Type 0 where
   pub answer : r ≡ motion_read l
-  pub outcome : command_outcome r ≡ judged_outcome l
+  pub outcome : outcome_of r ≡ judged_outcome l
 
 -- ---- writing
 

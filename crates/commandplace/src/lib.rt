@@ -2,127 +2,122 @@
 // reader of entries calls this, once they are none.
 #![tactic(auto)]
 
-ghost use Rattle.std.specs.Prelude.{◌≡◌, cond, ℕ, ◌≤◌, length, drop};
-ghost use Rattle.begins.specs.Digits.{fits, seek_fixed};
-ghost use Rattle.begins.specs.Commands.{digit_of};
+ghost use Rattle.std.specs.Prelude.{◌≡◌, ℕ, ◌≤◌, length, drop};
+ghost use Rattle.begins.specs.Digits.{fits};
+ghost use Rattle.begins.specs.Commands.{seek_hex, duration_range, a_range, b_range};
 ghost use Rattle.begins.specs.Entries.{seek_rest, seek_command};
 ghost use Rattle.seek.specs.Spotted.{SpottedNumber, Ends};
-ghost use Rattle.commandplace.specs.Passed.{Passed, seek_tail};
+ghost use Rattle.commandplace.specs.Passed.{IsDigit, range_is, Passed, seek_tail};
 
-use seek::{NumberAt, TextAt};
-
-// The bytes of the hex digits a and f.
-const TEN: u8 = 97;
-
-const FIFTEEN: u8 = 102;
+use seek::Wrong;
+use text::{Bounds, Number};
 
 // ---- hex digits
 
-// The value of a hex digit; 16 for a byte that is none.
-fn digit_of(c: u8) -> u64
-    ensures { result ≡ digit_of c }
+// The value of a hex digit.
+// (Not `to_digit`, which takes the letters A to F too.)
+fn digit_of(c: u8) -> Option<u8>
+    ensures { IsDigit c result }
 {
-    if c < text::ZERO {
-        return 16;
+    match c {
+        b'0'..=b'9' => Some(c - b'0'),
+        b'a'..=b'f' => Some(10 + (c - b'a')),
+        _ => None,
     }
-    if c <= seek::NINE {
-        return seek::wide(c - text::ZERO);
-    }
-    if c < TEN {
-        return 16;
-    }
-    if c <= FIFTEEN {
-        return 10 + seek::wide(c - TEN);
-    }
-    16
 }
 
-// Whether some number of lo..hi is v with so many more hex digits.
-fn can_fit(many: u32, lo: u32, hi: u32, v: u64) -> bool
-    ensures { result ≡ fits 16 many lo hi v }
+// Whether some number of the range is v with so many more hex digits.
+fn can_fit(many: usize, range: Bounds, v: u64) -> bool
+    ensures { result ≡ fits 16 many range.lo range.hi v }
 {
-    let mut l = lo as u64;
-    let mut h = hi as u64;
-    let mut left = many;
-    while 0 < left {
-        l = l / 16;
-        h = h / 16;
-        left -= 1;
+    let mut l = u64::from(range.lo);
+    let mut h = u64::from(range.hi);
+    for _ in 0..many {
+        l /= 16;
+        h /= 16;
     }
-    (l <= v) & (v <= h)
+    l <= v && v <= h
 }
 
-// So many hex digits of a number in lo..hi.
-fn hex_at(s: &[u8], at: usize, many: u32, lo: u32, hi: u32) -> NumberAt
+// So many hex digits of a number in a range.
+// (By index, which tells how many digits are left and where the text ended too soon: a `zip` would only end there.)
+#[tactic(auto, unfolding(begins::specs::Commands::seek_hex))]
+fn hex_at(s: &[u8], at: usize, many: usize, range: Bounds) -> Result<Number, Wrong>
     requires { at ≤ length s.now }
-    ensures { SpottedNumber s.now (seek_fixed digit_of 16 many lo hi 0 (drop at s.now)) result }
+    ensures { SpottedNumber s.now (seek_hex many (range_is range) (drop at s.now)) result }
 {
-    let mut v: u64 = 0;
-    let mut i = at;
-    let mut left = many;
-    while 0 < left {
-        if s.len() <= i {
-            return NumberAt::Wrong { place: i };
+    let mut value = 0;
+    for i in 0..many {
+        let wrong = Wrong { place: at + i };
+        let c = *s.get(at + i).ok_or(wrong)?;
+        let digit = digit_of(c).ok_or(wrong)?;
+        let longer = u64::from(value) * 16 + u64::from(digit);
+        if !can_fit(many - 1 - i, range, longer) {
+            return Err(wrong);
         }
-        let d = digit_of(s[i]);
-        if 15 < d {
-            return NumberAt::Wrong { place: i };
-        }
-        left -= 1;
-        let w = v * 16 + d;
-        if !can_fit(left, lo, hi, w) {
-            return NumberAt::Wrong { place: i };
-        }
-        v = w;
-        i += 1;
+        value = longer as u32;
     }
-    NumberAt::Is {
-        value: v as u32,
-        next: i,
+    Ok(Number {
+        value,
+        next: at + many,
+    })
+}
+
+// ---- the ranges of a command's numbers, by its kind
+
+// A stop lasts no time, and any other command up to ten minutes, in milliseconds.
+// (The kind stays a number here and below: it was read as one, and the definitions `seek_rest` and `duration_range` speak of it so.)
+#[tactic(auto, unfolding(begins::specs::Commands::duration_range))]
+fn duration_range(kind: u32) -> Bounds
+    ensures { range_is result ≡ duration_range kind }
+{
+    if kind == 0 {
+        Bounds { lo: 0, hi: 0 }
+    } else {
+        Bounds { lo: 1, hi: 600_000 }
     }
+}
+
+// A stop has no gain.
+#[tactic(auto, unfolding(begins::specs::Commands::a_range))]
+fn a_range(kind: u32) -> Bounds
+    ensures { range_is result ≡ a_range kind }
+{
+    let hi = if kind == 0 { 0 } else { command::GAIN_MOST };
+    Bounds { lo: 0, hi }
+}
+
+// Only a ramp has a second gain.
+// (Like `a_range` but for the kind that has the gain: each has its own definition, and is one line.)
+#[tactic(auto, unfolding(begins::specs::Commands::b_range))]
+fn b_range(kind: u32) -> Bounds
+    ensures { range_is result ≡ b_range kind }
+{
+    let hi = if kind == 2 { command::GAIN_MOST } else { 0 };
+    Bounds { lo: 0, hi }
 }
 
 // ---- a command
 
-fn pick(test: bool, a: u32, b: u32) -> u32
-    ensures { result ≡ cond test a b }
-{
-    if test { a } else { b }
-}
-
-// The numbers of a command behind its motor and kind.
-fn rest_at(s: &[u8], at: usize, kind: u32) -> TextAt
+// The numbers of a command behind its motor and kind: the place past them.
+fn rest_at(s: &[u8], at: usize, kind: u32) -> Result<usize, Wrong>
     requires { at ≤ length s.now }
     ensures { (motor : ℕ) → Passed s.now (seek_rest motor kind (drop at s.now)) result }
 {
-    let stop = kind == 0;
-    let p = match hex_at(s, at, 8, pick(stop, 0, 1), pick(stop, 0, 600_000)) {
-        NumberAt::Is { value: _, next } => next,
-        NumberAt::Wrong { place } => return TextAt::Wrong { place },
-    };
-    let q = match hex_at(s, p, 8, 0, pick(stop, 0, 0x3f80_0000)) {
-        NumberAt::Is { value: _, next } => next,
-        NumberAt::Wrong { place } => return TextAt::Wrong { place },
-    };
-    match hex_at(s, q, 8, 0, pick(kind == 2, 0x3f80_0000, 0)) {
-        NumberAt::Is { value: _, next } => TextAt::Is { next },
-        NumberAt::Wrong { place } => TextAt::Wrong { place },
-    }
+    let duration = hex_at(s, at, 8, duration_range(kind))?;
+    let a = hex_at(s, duration.next, 8, a_range(kind))?;
+    let b = hex_at(s, a.next, 8, b_range(kind))?;
+    Ok(b.next)
 }
 
-// The digits of a legal command.
-fn command_at(s: &[u8], at: usize) -> TextAt
+// The digits of a legal command: the place past them.
+fn command_at(s: &[u8], at: usize) -> Result<usize, Wrong>
     requires { at ≤ length s.now }
     ensures { Passed s.now (seek_command (drop at s.now)) result }
 {
-    let p = match hex_at(s, at, 4, 1, 64) {
-        NumberAt::Is { value: _, next } => next,
-        NumberAt::Wrong { place } => return TextAt::Wrong { place },
-    };
-    match hex_at(s, p, 4, 0, 2) {
-        NumberAt::Is { value, next } => rest_at(s, next, value),
-        NumberAt::Wrong { place } => TextAt::Wrong { place },
-    }
+    let motor = hex_at(s, at, 4, Bounds { lo: 1, hi: 64 })?;
+    let kind = hex_at(s, motor.next, 4, Bounds { lo: 0, hi: 2 })?;
+    rest_at(s, kind.next, kind.value)
 }
 
 // The digits of a legal command and the end of its line: the place past them, or that of their first wrong byte.
@@ -131,7 +126,7 @@ pub fn tail_place(s: &[u8], at: usize) -> usize
     ensures { Ends s.now (seek_tail (drop at s.now)) result }
 {
     match command_at(s, at) {
-        TextAt::Is { next } => seek::literal_place(s, next, b"\n"),
-        TextAt::Wrong { place } => place,
+        Ok(next) => seek::literal_place(s, next, b"\n"),
+        Err(wrong) => wrong.place,
     }
 }

@@ -1,20 +1,59 @@
-// A command alone, read from its 16 bytes and written into them: as a motion, and as the five numbers that C is given.
+// A command alone, read from its 16 bytes and written into them: as a motion, and as its five numbers.
 #![tactic(auto)]
 
-ghost use Rattle.std.specs.Prelude.{◌≡◌, true, false, ◌≤◌, pos, length};
-ghost use Rattle.std.specs.Int.Signed.{lt_z};
+ghost use Rattle.std.specs.Prelude.{◌≡◌, true, ◌≤◌, length};
 ghost use Rattle.std.proofs.lemmas.List.Edits.{sets};
-ghost use Rattle.command.specs.Words.{unsigned};
+ghost use Rattle.kinds.specs.Refusal.{outcome_of};
 ghost use Rattle.command.specs.Command.{legal_command, command_size, command_bytes};
 ghost use Rattle.command.specs.Case.{command_is};
-ghost use Rattle.command.specs.Answers.{of_numbers, ReadsCommand, command_numbers, list_of, numbers_read, command_written, IsResult, command_with};
+ghost use Rattle.command.specs.Answers.{of_numbers, numbers_in, ReadsCommand, numbers_read, command_written, IsResult};
 
-use command::{Motion, Numbers, Read};
+use command::{Motion, Numbers};
+use kinds::Refusal;
 
-// How many numbers a command has.
-const FIELDS: usize = 5;
+// ---- reading
+
+// The numbers of a legal command's 16 bytes. Inlined, since a call of it costs a reading two thirds more time.
+// (`lawful::numbers_of` asks for the length too, but answers no refusal.)
+#[inline(always)]
+#[tactic(auto, using(command::proofs::AnswersLaws::numbers_in_size, command::proofs::AnswersLaws::numbers_in_illegal, command::proofs::AnswersLaws::numbers_in_legal))]
+fn numbers_in(bytes: &[u8]) -> Result<Numbers, Refusal>
+    ensures { result ≡ numbers_in bytes.now }
+{
+    if bytes.len() != command::SIZE {
+        return Err(Refusal::BadCommand);
+    }
+    let n = lawful::numbers_at(bytes, 0);
+    if !lawful::is_legal(n) {
+        return Err(Refusal::BadCommand);
+    }
+    Ok(n)
+}
+
+// The motion of a legal command's 16 bytes.
+#[tactic(auto, using(command::proofs::AnswersLaws::reads_illegal, command::proofs::AnswersLaws::numbers_in_are_legal, command::proofs::AnswersLaws::reads_legal))]
+pub fn read_command(bytes: &[u8]) -> Result<Motion, Refusal>
+    ensures { ReadsCommand bytes.now result }
+{
+    let n = numbers_in(bytes)?;
+    Ok(n.motion())
+}
+
+// Reads a command's 16 bytes into the first five lent numbers: motor, kind, duration, a and b. A refusal leaves them all.
+pub fn read_numbers(bytes: &[u8], numbers: &mut [u32]) -> Result<(), Refusal>
+    ensures { IsResult (numbers_read bytes.now numbers.old) (outcome_of result) numbers.new }
+{
+    let Some(five) = numbers.first_chunk_mut::<5>() else {
+        return Err(Refusal::ShortOutput);
+    };
+    *five = numbers_in(bytes)?.into();
+    Ok(())
+}
+
+// ---- writing
 
 // Writes the numbers of a legal command into the first 16 bytes.
+// (Like `rows::put_words`, whose `Words` would be made for one call: motor and kind are joined either way.)
 fn put_numbers(n: Numbers, out: &mut [u8])
     requires { (legal_command (of_numbers n) ≡ true) × (command_size ≤ length out.old) }
     ensures { out.new ≡ sets out.old 0 (command_bytes (of_numbers n)) }
@@ -25,91 +64,24 @@ fn put_numbers(n: Numbers, out: &mut [u8])
     words::put32(out, 12, n.b);
 }
 
-// The motion of a command's 16 bytes.
-pub fn read_command(bytes: &[u8]) -> Read
-    ensures { ReadsCommand bytes.now result }
-{
-    if bytes.len() != command::SIZE {
-        return Read::Illegal;
-    }
-    let n = lawful::numbers_at(bytes, 0);
-    if !lawful::is_legal(n) {
-        return Read::Illegal;
-    }
-    Read::Legal(motion::motion_of(n))
-}
-
-// Writes a motion's 16 bytes at the start of `out`. A refusal (3: too little room; 10: not legal) leaves every byte.
-pub fn write_command(m: Motion, out: &mut [u8]) -> u32
-    ensures { IsResult (command_written (command_is m) out.old) result out.new }
-{
-    let case = m.case;
-    write_numbers(
-        m.motor as u32,
-        motion::kind_of(case),
-        m.duration,
-        motion::a_of(case),
-        motion::b_of(case),
-        out,
-    )
-}
-
-// Puts the five numbers into the first five of the lent ones.
-fn put_fields(n: Numbers, numbers: &mut [u32])
-    requires { command_numbers ≤ length numbers.old }
-    ensures { numbers.new ≡ sets numbers.old 0 (list_of n) }
-{
-    numbers[0] = n.motor;
-    numbers[1] = n.kind;
-    numbers[2] = n.duration;
-    numbers[3] = n.a;
-    numbers[4] = n.b;
-}
-
-// Reads a command's 16 bytes into the first five lent numbers: motor, kind, duration, a and b. A refusal (3: fewer than five numbers
-// lent; 10: not a legal command) leaves them all.
-pub fn read_numbers(bytes: &[u8], numbers: &mut [u32]) -> u32
-    ensures { IsResult (numbers_read bytes.now numbers.old) result numbers.new }
-{
-    if numbers.len() < FIELDS {
-        return kinds::SHORT_OUTPUT;
-    }
-    if !lawful::is_command(bytes) {
-        return kinds::BAD_COMMAND;
-    }
-    put_fields(lawful::numbers_at(bytes, 0), numbers);
-    kinds::DONE
-}
-
-// The 32 bits of a duration that is not below zero.
-fn unsigned_of(duration: i32) -> u32
-    requires { lt_z duration (pos 0) ≡ false }
-    ensures { result ≡ unsigned duration }
-{
-    duration as u32
-}
-
-// Writes the 16 bytes of the command of these numbers at the start of `out`. A refusal (3: too little room; 10: not legal)
-// leaves every byte.
-pub fn write_numbers(motor: u32, kind: u32, duration: i32, a: u32, b: u32, out: &mut [u8]) -> u32
-    ensures { IsResult (command_written (command_with motor kind duration a b) out.old) result out.new }
+// Writes the 16 bytes of the command of these numbers at the start of `out`. A refusal leaves every byte.
+#[tactic(auto, using(command::proofs::AnswersLaws::command_written_short, command::proofs::AnswersLaws::command_written_illegal, command::proofs::AnswersLaws::command_written_done))]
+pub fn write_numbers(n: Numbers, out: &mut [u8]) -> Result<(), Refusal>
+    ensures { IsResult (command_written (of_numbers n) out.old) (outcome_of result) out.new }
 {
     if out.len() < command::SIZE {
-        return kinds::SHORT_OUTPUT;
+        return Err(Refusal::ShortOutput);
     }
-    if duration < 0 {
-        return kinds::BAD_COMMAND;
-    }
-    let n = Numbers {
-        motor: motor,
-        kind: kind,
-        duration: unsigned_of(duration),
-        a: a,
-        b: b,
-    };
     if !lawful::is_legal(n) {
-        return kinds::BAD_COMMAND;
+        return Err(Refusal::BadCommand);
     }
     put_numbers(n, out);
-    kinds::DONE
+    Ok(())
+}
+
+// Writes a motion's 16 bytes at the start of `out`. A refusal leaves every byte.
+pub fn write_command(m: Motion, out: &mut [u8]) -> Result<(), Refusal>
+    ensures { IsResult (command_written (command_is m) out.old) (outcome_of result) out.new }
+{
+    write_numbers(m.into(), out)
 }

@@ -1,10 +1,11 @@
 -- Laws of append-yes: what the rule says by what the code tests, and what a recorded end makes of the bytes. Assumes nothing.
-use Prim.Native.Nat.{ℕ, zero, suc, ◌-◌, max}
+use Prim.Native.Nat.{ℕ, zero, suc, ◌-◌, ◌≤◌, ◌<◌, max}
 use native.Mathlib.Omega.{arith}
 use mathlib.Core.Path.{◌≡◌, refl, sym, ◌∙◌, ap}
-use mathlib.Core.Bool.{Bool, true, false}
+use mathlib.Core.Bool.{true, false}
 use mathlib.Core.List.{List, [], ◌∷◌, map}
 use mathlib.Core.Option.{none}
+use borrow.Author.Tests.{le-ltb, lt-ltb}
 use lib.Dec.{ltb}
 use lib.ListN.{get_or, set}
 use lib.Seq.{sets}
@@ -100,32 +101,31 @@ module _ (w : Who) (l : List ℕ) (from end : ℕ) (hears : HearsEnd w l from en
   pub heard_other : (h.role ≡ as_leader → ⊥) → Ruled (heard_end w (state_in l) from end) l false l
   heard_other role = idle_ruled l (end_other w (state_in l).kept from end (state_in l).lost (λ f. role (role_is ∙ f)))
 
-  -- The code's test: whether the end is greater than recorded.
-  more_test :
-      {p : Place} {b : Bool} → p ≡ get_or h.confirmed (from - 1) (place 0) → b ≡ ltb p.0 end
-      → ltb (get_or (confirmed_of (state_in l).lost) (from - 1) 0) end ≡ b
-  more_test ep eb = ap (λ (x : ℕ). ltb x end) (sym (ap (λ (q : Place). q.0) ep ∙ recorded_is)) ∙ sym eb
+  module _ (role : h.role ≡ as_leader) {p : Place} (here : p ≡ get_or h.confirmed (from - 1) (place 0)) where
+    -- What the leader has recorded.
+    known : p.0 ≡ get_or (confirmed_of (state_in l).lost) (from - 1) 0
+    known = ap (λ (q : Place). q.0) here ∙ recorded_is
 
-  -- Nothing new.
-  pub heard_known :
-      h.role ≡ as_leader → {p : Place} {b : Bool} → p ≡ get_or h.confirmed (from - 1) (place 0) → b ≡ ltb p.0 end → b ≡ false
-      → Ruled (heard_end w (state_in l) from end) l false l
-  heard_known role ep eb known =
-      idle_ruled l (end_known w (state_in l).kept from end (state_in l).lost (sym role_is ∙ role) (more_test ep eb ∙ known))
+    -- Nothing new.
+    pub heard_known : end ≤ p.0 → Ruled (heard_end w (state_in l) from end) l false l
+    heard_known least =
+        let test = le-ltb (get_or (confirmed_of (state_in l).lost) (from - 1) 0) end (omega (arith, known)) in
+        idle_ruled l (end_known w (state_in l).kept from end (state_in l).lost (sym role_is ∙ role) test)
 
-  -- Recorded.
-  pub heard_more :
-      h.role ≡ as_leader → {p : Place} {b : Bool} → p ≡ get_or h.confirmed (from - 1) (place 0) → b ≡ ltb p.0 end → b ≡ true → {f : Head} {l' : List ℕ}
-      → f ≡ confirming h from (place end) (place (max h.chosen.0 (majority_place w.size (place_numbers (set h.confirmed (from - 1) (place end))))))
-      → l' ≡ sets l 0 (bytes_of_head f) → Ruled (heard_end w (state_in l) from end) l true l'
-  unfolding head_of
-  heard_more role ep eb more {f = f} ef el =
-      let s = state_in l in
-      let leads = sym role_is ∙ role in
-      let t = recorded w s.kept (set (confirmed_of s.lost) (from - 1) end) in
-      let told = end_more w s.kept from end s.lost leads (more_test ep eb ∙ more) in
-      let peer : IsPeer w from = record { first = hears.first; last = hears.last; other = hears.other } in
-      let fine = heard_end_fine w (ready_who w l hears.ready) from peer s.kept s.lost end (ready_legal w l hears.ready) hears.agrees in
-      let made = recorded_head w s.kept from end s.lost leads in
-      let head : f ≡ head_of t.kept t.lost = ef ∙ rw (confirmed_is, chosen_is, all_of) made.0 in
-      effect_ruled t l _ told (el ∙ rw head (ready_headed w l hears.ready t (fine_legal fine told) made.1))
+    -- Recorded.
+    pub heard_more :
+        p.0 < end → {f : Head} {l' : List ℕ}
+        → f ≡ confirming h from (place end) (place (max h.chosen.0 (majority_place w.size (place_numbers (set h.confirmed (from - 1) (place end))))))
+        → l' ≡ sets l 0 (bytes_of_head f) → Ruled (heard_end w (state_in l) from end) l true l'
+    unfolding head_of
+    heard_more more {f = f} ef el =
+        let s = state_in l in
+        let leads = sym role_is ∙ role in
+        let t = recorded w s.kept (set (confirmed_of s.lost) (from - 1) end) in
+        let test = lt-ltb (get_or (confirmed_of s.lost) (from - 1) 0) end (omega (arith, known)) in
+        let told = end_more w s.kept from end s.lost leads test in
+        let peer : IsPeer w from = record { first = hears.first; last = hears.last; other = hears.other } in
+        let fine = heard_end_fine w (ready_who w l hears.ready) from peer s.kept s.lost end (ready_legal w l hears.ready) hears.agrees in
+        let made = recorded_head w s.kept from end s.lost leads in
+        let head : f ≡ head_of t.kept t.lost = ef ∙ rw (confirmed_is, chosen_is, all_of) made.0 in
+        effect_ruled t l _ told (el ∙ rw head (ready_headed w l hears.ready t (fine_legal fine told) made.1))

@@ -1,14 +1,15 @@
 -- A command is legal by the digits of its numbers: the tests of the code, by the limits of each kind. Assumes nothing.
 use Prim.Native.Nat.{ℕ, zero, suc, ◌<◌}
 use native.Mathlib.Omega.{arith}
-use mathlib.Core.Path.{◌≡◌, refl, sym, ◌∙◌}
+use mathlib.Core.Path.{◌≡◌, refl, ◌∙◌}
 use mathlib.Core.Bool.{Bool, true, false, ◌&&◌, cond, and_assoc}
 use lib.Dec.{leb, eqb}
 use borrow.Author.Tests.{lt-leb}
 use Rattle.command.specs.Words.{word, value, signed}
 use Rattle.command.specs.Command.{legal_command, gain_most}
 use Rattle.command.specs.Answers.{command_with}
-use Rattle.lawful.proofs.LimitLaws.{legal_kindless, legal_limits}
+use Rattle.lawful.specs.Limits.{limits_of}
+use Rattle.lawful.proofs.LimitLaws.{legal_limits}
 use Rattle.text.specs.Hex.{hex_digit, hex}
 use Rattle.digits.specs.Digits.{in_digits}
 use Rattle.digits.specs.Legal.{Tells}
@@ -26,11 +27,11 @@ tested m k d x y =
     && leb y (cond (eqb k 2) gain_most 0)
 
 tested_legal : (m k d x y : ℕ) → tested m k d x y ≡ legal_command (command_with m k (signed d) x y)
-tested_legal m zero d x y = simp and_assoc (simp and_assoc at (legal_limits m d x y 0 (omega arith)))
-tested_legal m (suc zero) d x y = simp and_assoc (simp and_assoc at (legal_limits m d x y 1 (omega arith)))
-tested_legal m (suc (suc zero)) d x y = simp and_assoc (simp and_assoc at (legal_limits m d x y 2 (omega arith)))
-tested_legal m (suc (suc (suc k))) d x y =
-    rw (lt-leb (suc (suc (suc k))) 2 (omega arith)) (sym (legal_kindless m d x y (suc (suc (suc k))) (omega arith)))
+unfolding limits_of
+tested_legal m zero d x y = simp and_assoc (simp and_assoc at (legal_limits m d x y 0))
+tested_legal m (suc zero) d x y = simp and_assoc (simp and_assoc at (legal_limits m d x y 1))
+tested_legal m (suc (suc zero)) d x y = simp and_assoc (simp and_assoc at (legal_limits m d x y 2))
+tested_legal m (suc (suc (suc k))) d x y = rw (lt-leb (suc (suc (suc k))) 2 (omega arith)) (legal_limits m d x y (suc (suc (suc k))))
 
 -- ---- the same in digits
 

@@ -18,7 +18,7 @@ use Rattle.text.proofs.ReaderLaws.{onward_got}
 use Rattle.command.specs.Words.{word, value, part, word_at}
 use Rattle.command.specs.Command.{legal_command, command_of}
 use Rattle.command.proofs.Tests.{by_test, both}
-use Rattle.command.proofs.WordsLaws.{Bytes, word_at_part, word_word_at, word_at_below, part_then, part_length, word_at_add}
+use Rattle.command.proofs.WordsLaws.{Bytes, word_at_part, word_word_at, word_at_below, part_then, part_length}
 use Rattle.rows.proofs.PartLaws.{part_split}
 use Rattle.rows.specs.Words.{words_at}
 use Rattle.digits.specs.Digits.{is_hex_digit, all_digits, in_digits, legal_digits}
@@ -225,11 +225,9 @@ module _ (s : List ℕ) (at : ℕ) (room : at + 32 ≤ length s) (bytes : Bytes 
         (λ t. rw (← eights_all, t) (sym (legal_lost_lem (drop at s) (digits_lost s at t))))
 
     -- The same of what the code calls each eight.
-    pub told_eights : {what : ℕ} {d1 d2 d3 d4 : Bool} → what ≡ motor * 4_294_967_296 + kind → d1 ≡ all_digits (word 8 what) → d2 ≡ all_digits (word 8 duration) →
+    pub told_eights : {what : ℕ} {d1 d2 d3 d4 : Bool} → what ≡ word_at at 8 s → d1 ≡ all_digits (word 8 what) → d2 ≡ all_digits (word 8 duration) →
         d3 ≡ all_digits (word 8 a) → d4 ≡ all_digits (word 8 b) → (d1 && d2 && d3 && d4 && r) ≡ legal_digits (drop at s)
-    told_eights ew e1 e2 e3 e4 =
-        let whole : motor * 4_294_967_296 + kind ≡ word_at at 8 s = omega (arith, em, ek, word_at_add at 4 4 s (omega arith)) in
-        rw (e1, e2, e3, e4, ew, whole, ed, ea, eb) told
+    told_eights ew e1 e2 e3 e4 = rw (e1, e2, e3, e4, ew, ed, ea, eb) told
 
 -- ---- made words
 

@@ -18,6 +18,8 @@ pub const MANY: usize = 32;
 
 // ---- a legal command's digits
 
+// As numbers in which each digit is a byte. They are written out, for a constant's value can't call `from_be_bytes`.
+
 // The digits 0001: the first motor.
 const MOTOR_LEAST: u32 = 0x3030_3031;
 // 0040: the last motor, 64.
@@ -47,6 +49,7 @@ fn are_digits(x: u64) -> bool
     (between | outside | x) & 0x8080_8080_8080_8080 == 0
 }
 
+// One of two limits. (With four `if`s in place of its calls there are sixteen ways to prove.)
 fn pick(test: bool, a: u64, b: u64) -> u64
     ensures { result ≡ cond test a b }
 {
@@ -55,6 +58,7 @@ fn pick(test: bool, a: u64, b: u64) -> u64
 
 // Whether the command whose numbers have these digits is legal. Digits are in the order of their values, and so numbers are compared by their digits. No
 // branch tells one kind from another, which a chip could not foretell.
+// (The kind by its digits, since the definition `Tells` speaks of those and no number is made of them.)
 fn is_legal(motor: u32, kind: u32, duration: u64, a: u64, b: u64) -> bool
     ensures { Tells motor kind duration a b result }
 {
@@ -77,7 +81,7 @@ pub fn are_legal(s: &[u8], at: usize) -> bool
     let duration = words::get64(s, at + 8);
     let a = words::get64(s, at + 16);
     let b = words::get64(s, at + 24);
-    let what = words::join_halves(motor, kind);
+    let what = words::get64(s, at);
     let digits = are_digits(what) & are_digits(duration) & are_digits(a) & are_digits(b);
     digits & is_legal(motor, kind, duration, a, b)
 }

@@ -26,7 +26,8 @@ fn digits_of(n: u32, zeros: u32) -> u32
 }
 
 // A whole number as a float, worked out. A float keeps 24 binary digits, so the number's are moved up to as many; they are the float's bits, with the
-// leading one added to the exponent.
+// leading one added to the exponent. (The limit stands in three contracts: since `drive_at` takes its times as plain numbers, a type that carries it would be
+// made and taken apart in this file alone.)
 fn whole_of(n: u32) -> f32
     requires { n ≤ duration_most }
     ensures { (result ≡ whole (pos n)) × IsNumber result n }
@@ -34,20 +35,22 @@ fn whole_of(n: u32) -> f32
     if n == 0 {
         return 0.0;
     }
-    let zeros = u32::leading_zeros(n);
+    let zeros = n.leading_zeros();
     f32::from_bits((EXPONENT - zeros) * LEADING + digits_of(n, zeros))
 }
 
+// Not `clamp`, which leaves -0 as it is.
+#[tactic(auto, unfolding(play::specs::Play::held))]
 fn held_within(x: f32) -> f32
     ensures { result ≡ held x }
 {
     if x <= 0.0 {
-        return 0.0;
+        0.0
+    } else if x > 1.0 {
+        1.0
+    } else {
+        x
     }
-    if x > 1.0 {
-        return 1.0;
-    }
-    x
 }
 
 // From x toward y by a part of the way.
@@ -57,6 +60,7 @@ fn toward(x: f32, y: f32, part: f32) -> f32
     held_within(x + (y - x) * part)
 }
 
+#[tactic(auto, unfolding(play::specs::Play::level_of))]
 fn level_of(case: Case, duration: u32, elapsed: u32) -> f32
     requires { (duration ≤ duration_most) × (elapsed < duration) }
     ensures { result ≡ level_of case (pos duration) (pos elapsed) }
@@ -68,22 +72,26 @@ fn level_of(case: Case, duration: u32, elapsed: u32) -> f32
     }
 }
 
+#[tactic(auto, unfolding(play::specs::Play::drive_of))]
 fn drive_of(cal: Calibration, level: f32) -> f32
     ensures { result ≡ drive_of cal level }
 {
     if level > 0.0 {
-        return toward(cal.floor, cal.ceiling, level);
+        toward(cal.floor, cal.ceiling, level)
+    } else {
+        0.0
     }
-    0.0
 }
 
 // The drive of a motor that has played a case for so long.
+#[tactic(auto, unfolding(play::specs::Play::drive_at))]
 pub fn drive_at(cal: Calibration, case: Case, duration: u32, elapsed: u32) -> f32
     requires { duration ≤ duration_most }
     ensures { result ≡ drive_at cal case (pos duration) (pos elapsed) }
 {
     if duration <= elapsed {
-        return 0.0;
+        0.0
+    } else {
+        drive_of(cal, level_of(case, duration, elapsed))
     }
-    drive_of(cal, level_of(case, duration, elapsed))
 }

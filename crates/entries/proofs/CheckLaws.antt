@@ -1,12 +1,13 @@
 -- An entry line that is checked: what is found of it up to the first part that is none, and where that is wrong. Assumes nothing.
 use Prim.Native.Nat.{◌+◌, ◌-◌, ◌<◌, ◌≤◌, ℕ}
-use borrow.Author.Tests.{not-false, not-true, eqb-true, eqb-false}
+use borrow.Author.Tests.{eqb-true, eqb-false}
 use lib.Dec.{eqb}
 use lib.ListN.{drop, get_or, length}
-use mathlib.Core.Bool.{Bool, false, not, true}
+use mathlib.Core.Bool.{Bool, false, true}
 use mathlib.Core.List.{List}
 use mathlib.Core.Path.{◌∙◌, ◌≡◌, ap, refl, subst, sym}
 use native.Mathlib.Omega.{arith}
+use Rattle.std.specs.Prelude.{Result, Ok, Err}
 use Rattle.kinds.proofs.BetweenLaws.{between_above}
 use Rattle.kinds.proofs.BoolLaws.{not_both}
 use Rattle.command.specs.Command.{command_of, legal_command}
@@ -14,9 +15,8 @@ use Rattle.command.specs.Entry.{Entry}
 use Rattle.command.proofs.Tests.{by_test}
 use Rattle.digits.specs.Digits.{legal_digits}
 use Rattle.digits.proofs.TextLaws.{Stand, found_stand, legal_lost_lem, legal_got}
-use Rattle.text.proofs.CaseLaws.{next_at, next_bad, number_is, number_bad}
 use Rattle.text.proofs.ReaderLaws.{onward_got, onward_lost, onward_never}
-use Rattle.text.specs.Found.{Found, FoundNext, FoundNumber}
+use Rattle.text.specs.Found.{Found}
 use Rattle.text.specs.Hex.{hex_bytes}
 use Rattle.text.specs.Line.{LF}
 use Rattle.text.specs.Range.{number_in}
@@ -29,14 +29,12 @@ use Rattle.begins.specs.Entries.{seek_command, seek_entry}
 use Rattle.begins.proofs.AgreeLaws.{rest_lost, rest_got}
 use Rattle.begins.proofs.Seeks.{Seeks, seeks_literal}
 use Rattle.begins.proofs.NumberLaws.{seeks_number}
-use Rattle.seek.specs.Spotted.{Ends, Missed}
-use Rattle.seek.proofs.SoughtLaws.{ends_same, rest_told_two}
+use Rattle.seek.specs.Spotted.{Ends, Missed, ReadNumber, ReadText}
+use Rattle.seek.proofs.SoughtLaws.{ends_same, read_is, read_wrong, rest_told_two, text_missed, text_read}
+use Rattle.seek.specs.declared.Wrong.{Wrong}
 use Rattle.commandplace.specs.Passed.{seek_tail}
 use Rattle.entries.specs.Found.{term_of, tail_in, FoundTail}
-use Rattle.text.specs.declared.Next.{Next}
 use Rattle.text.specs.declared.Number.{Number}
-use Rattle.text.specs.declared.Next.TheVariants.{At, Bad as Next-as-Bad}
-use Rattle.text.specs.declared.Number.TheVariants.{Is as Number-as-Is, Bad as Number-as-Bad}
 use Rattle.entries.proofs.LineLaws.{end_stands, end_other, end_past}
 
 entry_in_parts : (low high : ℕ) (s : List ℕ) → entry_in low high s ≡ onward (literal entry= s) (λ z t. onward (number_in low high 58 t) tail_in)
@@ -102,20 +100,20 @@ module _ (s : List ℕ) (n : ℕ) where
 
   module _ (room : 33 ≤ length s - n) (k : Bool) (test : k ≡ legal_digits (drop n s)) where
     -- No digits of a legal command.
-    pub tail_not : not k ≡ true → FoundTail s n false
-    tail_not h x = ended_not s x n (sym test ∙ not-true k h)
+    pub tail_not : k ≡ false → FoundTail s n k
+    tail_not h = rw h (λ x. ended_not s x n (sym test ∙ h))
 
     -- The byte behind them decides.
-    pub tail_byte : not k ≡ false → FoundTail s n (eqb (get_or s (n + 32) 0) 10)
+    pub tail_byte : k ≡ true → FoundTail s n (eqb (get_or s (n + 32) 0) 10)
     tail_byte h =
         by_test (eqb (get_or s (n + 32) 0) 10)
-        (λ e. rw e (λ x. record { inside = omega arith; read = ended_legal s x n (omega arith) (sym test ∙ not-false k h) (eqb-true _ _ e) }))
+        (λ e. rw e (λ x. record { inside = omega arith; read = ended_legal s x n (omega arith) (sym test ∙ h) (eqb-true _ _ e) }))
         (λ e. rw e (λ x. ended_other s x n (omega arith) (eqb-false _ _ e)))
 
 -- Where they stand, they are read, and the line ends inside the text.
-module _ (s : List ℕ) (n : ℕ) (t : Bool) (tail : FoundTail s n t) (h : not t ≡ false) where
+module _ (s : List ℕ) (n : ℕ) (t : Bool) (tail : FoundTail s n t) (h : t ≡ true) where
   tail_stands : (term : ℕ) → Found s (term_of (tail_in term (drop n s))) term (n + 33)
-  tail_stands = subst (FoundTail s n) (not-false t h) tail
+  tail_stands = subst (FoundTail s n) h tail
 
   pub tail_inside : n + 33 ≤ length s
   tail_inside = (tail_stands 0).inside
@@ -126,85 +124,91 @@ module _ (s : List ℕ) (n : ℕ) (t : Bool) (tail : FoundTail s n t) (h : not t
 abbrev after_term : ℕ → Seeker Entry
 after_term term r = on (seek_command r) (λ c q. on (seek_literal LF q) (λ a. found (record { term = term; command = c })))
 
-module _ (s : List ℕ) (at low high : ℕ) (r : Next) (key : FoundNext s (literal entry= (drop at s)) r) where
-  -- Another key stands there: its first wrong byte is that of the line.
-  pub entry-no-key
-      : r ≡ Next-as-Bad
-      → {p : ℕ}
-      → Ends s (seek_literal entry= (drop at s)) p
-      → Missed s (term_of (entry_in low high (drop at s))) (seek_entry low high (drop at s)) p
-  unfolding seek_entry
-  entry-no-key e ends =
-      let none = next_bad s _ r key e in
-      record {
-        refused = onward_lost _ (entry_in_parts low high (drop at s) ∙ onward_lost _ none);
-        ends = ends_same (rest_lost (literal entry=) (seek_literal entry=) (seeks_literal entry=) (λ a t. on (seek_number low high 58 t) after_term) (drop at s) none) ends;
-      }
+module _ (s : List ℕ) (at low high : ℕ) (r : Result ℕ Wrong) (key : ReadText s (literal entry= (drop at s)) (seek_literal entry= (drop at s)) r) where
+  -- What the code's answer says of the line.
+  abbrev Told : Result Number Wrong → Type 0
+  Told = ReadNumber s (term_of (entry_in low high (drop at s))) (seek_entry low high (drop at s))
 
-  module _ {p : ℕ} (e : r ≡ At p) where
+  -- Another key stands there: its first wrong byte is that of the line.
+  pub entry-no-key : {w : Wrong} → r ≡ Err w → {x : Result Number Wrong} → x ≡ Err w → Told x
+  unfolding seek_entry
+  entry-no-key e is =
+      let missed = text_missed s _ _ r key e in
+      rw is (record {
+        refused = onward_lost _ (entry_in_parts low high (drop at s) ∙ onward_lost _ missed.refused);
+        ends =
+            ends_same
+            (rest_lost (literal entry=) (seek_literal entry=) (seeks_literal entry=) (λ a t. on (seek_number low high 58 t) after_term) (drop at s) missed.refused)
+            missed.ends;
+      })
+
+  module _ {p : ℕ} (e : r ≡ Ok p) where
+    there : Found s (literal entry= (drop at s)) tt p
+    there = text_read s _ _ r key e
+
     -- The key ends inside the text.
     pub key_inside : p ≤ length s
-    key_inside = (next_at s _ r key p e).inside
+    key_inside = there.inside
 
-    module _ (open-range : low ≤ high) (q : Number) (number : FoundNumber s (number_in low high 58 (drop p s)) q) where
-      seeks_term : Seeks (number_in low high 58) (seek_number low high 58)
-      seeks_term = seeks_number low high 58 open-range (between_above 48 57 58 (omega arith))
+    module _
+        (open-range : low ≤ high) (q : Result Number Wrong)
+        (number : ReadNumber s (number_in low high 58 (drop p s)) (seek_number low high 58 (drop p s)) q)
+      where
+        seeks_term : Seeks (number_in low high 58) (seek_number low high 58)
+        seeks_term = seeks_number low high 58 open-range (between_above 48 57 58 (omega arith))
 
-      behind_key : entry_in low high (drop at s) ≡ onward (number_in low high 58 (drop p s)) tail_in
-      behind_key = entry_in_parts low high (drop at s) ∙ onward_got _ (next_at s _ r key p e).read
+        behind_key : entry_in low high (drop at s) ≡ onward (number_in low high 58 (drop p s)) tail_in
+        behind_key = entry_in_parts low high (drop at s) ∙ onward_got _ there.read
 
-      sought_key : rest_of (seek_entry low high (drop at s)) ≡ rest_of (on (seek_number low high 58 (drop p s)) after_term)
-      unfolding seek_entry
-      sought_key =
-          rest_got (literal entry=) (seek_literal entry=) (seeks_literal entry=) (λ a t. on (seek_number low high 58 t) after_term) (drop at s)
-          (next_at s _ r key p e).read
+        sought_key : rest_of (seek_entry low high (drop at s)) ≡ rest_of (on (seek_number low high 58 (drop p s)) after_term)
+        unfolding seek_entry
+        sought_key =
+            rest_got (literal entry=) (seek_literal entry=) (seeks_literal entry=) (λ a t. on (seek_number low high 58 t) after_term) (drop at s) there.read
 
-      -- No term of the range: its first wrong byte is that of the line.
-      pub entry-no-term
-          : q ≡ Number-as-Bad
-          → {n : ℕ}
-          → Ends s (seek_number low high 58 (drop p s)) n
-          → Missed s (term_of (entry_in low high (drop at s))) (seek_entry low high (drop at s)) n
-      entry-no-term b ends =
-          let none = number_bad s _ q number b in
-          record {
-            refused = onward_lost _ (behind_key ∙ onward_lost _ none);
-            ends =
-                ends_same
-                (sought_key ∙ rest_lost (number_in low high 58) (seek_number low high 58) seeks_term after_term (drop p s) none)
-                ends;
-          }
+        -- No term of the range: its first wrong byte is that of the line.
+        pub entry-no-term : {w : Wrong} → q ≡ Err w → {x : Result Number Wrong} → x ≡ Err w → Told x
+        entry-no-term b is =
+            let missed = read_wrong s _ _ q number b in
+            rw is (record {
+              refused = onward_lost _ (behind_key ∙ onward_lost _ missed.refused);
+              ends =
+                  ends_same
+                  (sought_key ∙ rest_lost (number_in low high 58) (seek_number low high 58) seeks_term after_term (drop p s) missed.refused)
+                  missed.ends;
+            })
 
-      module _ {x n : ℕ} (i : q ≡ Number-as-Is x n) where
-        -- The term ends inside the text.
-        pub term_inside : n ≤ length s
-        term_inside = (number_is s _ q number x n i).inside
+        module _ {v : Number} (i : q ≡ Ok v) where
+          term : Found s (number_in low high 58 (drop p s)) v.value v.next
+          term = read_is s _ _ q number i
 
-        behind_term : entry_in low high (drop at s) ≡ tail_in x (drop n s)
-        behind_term = behind_key ∙ onward_got _ (number_is s _ q number x n i).read
+          -- The term ends inside the text.
+          pub term_inside : v.next ≤ length s
+          term_inside = term.inside
 
-        module _ (t : Bool) (tail : FoundTail s n t) where
-          -- No legal command, or the line does not end there: the first wrong byte of these is that of the line.
-          pub entry-no-tail
-              : not t ≡ true
-              → {m : ℕ}
-              → Ends s (seek_tail (drop n s)) m
-              → Missed s (term_of (entry_in low high (drop at s))) (seek_entry low high (drop at s)) m
-          entry-no-tail h ends =
-              let none : (term : ℕ) → tail_in term (drop n s) ≡ lost = subst (FoundTail s n) (not-true t h) tail in
-              record {
-                refused = onward_lost _ (behind_term ∙ none x);
-                ends =
-                    ends_same
-                    (sought_key
-                    ∙ rest_got (number_in low high 58) (seek_number low high 58) seeks_term after_term (drop p s)
-                    (number_is s _ q number x n i).read
-                    ∙ rest_told_two (λ c a. record { term = x; command = c }) (λ c. seek_literal LF) (seek_command (drop n s)))
-                    ends;
-              }
+          behind_term : entry_in low high (drop at s) ≡ tail_in v.value (drop v.next s)
+          behind_term = behind_key ∙ onward_got _ term.read
 
-          -- They stand there.
-          pub entry_is : not t ≡ false → Found s (term_of (entry_in low high (drop at s))) x (n + 33)
-          entry_is h =
-              let held = tail_stands s n t tail h x in
-              record { inside = held.inside; read = ap term_of behind_term ∙ held.read }
+          module _ (t : Bool) (tail : FoundTail s v.next t) where
+            -- No legal command, or the line does not end there: the first wrong byte of these is that of the line.
+            pub entry-no-tail
+                : t ≡ false
+                → {m : ℕ}
+                → Ends s (seek_tail (drop v.next s)) m
+                → Missed s (term_of (entry_in low high (drop at s))) (seek_entry low high (drop at s)) m
+            entry-no-tail h ends =
+                let none : (x : ℕ) → tail_in x (drop v.next s) ≡ lost = subst (FoundTail s v.next) h tail in
+                record {
+                  refused = onward_lost _ (behind_term ∙ none v.value);
+                  ends =
+                      ends_same
+                      (sought_key
+                      ∙ rest_got (number_in low high 58) (seek_number low high 58) seeks_term after_term (drop p s) term.read
+                      ∙ rest_told_two (λ c a. record { term = v.value; command = c }) (λ c. seek_literal LF) (seek_command (drop v.next s)))
+                      ends;
+                }
+
+            -- They stand there.
+            pub entry_is : t ≡ true → Found s (term_of (entry_in low high (drop at s))) v.value (v.next + 33)
+            entry_is h =
+                let held = tail_stands s v.next t tail h v.value in
+                record { inside = held.inside; read = ap term_of behind_term ∙ held.read }

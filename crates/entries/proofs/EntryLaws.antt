@@ -12,9 +12,9 @@ use Rattle.begins.specs.Seek.{rest_of}
 use Rattle.begins.specs.Entries.{seek_entry, seek_entries}
 use Rattle.begins.proofs.AgreeLaws.{entries_wrong, least_open}
 use Rattle.seek.specs.Spotted.{ReadNumber}
-use Rattle.seek.specs.declared.NumberAt.{NumberAt}
-use Rattle.seek.specs.declared.NumberAt.TheVariants.{Is, Wrong}
-use Rattle.seek.specs.declared.TextAt.TheVariants.{Is as TextAt-as-Is, Wrong as TextAt-as-Wrong}
+use Rattle.seek.specs.declared.Wrong.{Wrong}
+use Rattle.text.specs.declared.Number.{Number}
+use Rattle.std.specs.Prelude.{Result, Ok, Err}
 use Rattle.seek.proofs.SoughtLaws.{read_is, read_wrong, ends_same}
 use Rattle.entries.specs.Found.{FoundEntries, term_of}
 
@@ -70,7 +70,7 @@ walking_none s at count low high h = record { inside = h; most = omega arith; be
 
 module _ {s : List ℕ} {at count low high next read least : ℕ} (h : Walking s at count low high next read least) where
   -- No line is left.
-  pub walking_done : count ≤ read → FoundEntries s at count low high (TextAt-as-Is next)
+  pub walking_done : count ≤ read → FoundEntries s at count low high (Ok next)
   walking_done done =
       let all : read ≡ count = omega (arith, h.most, done) in
       record { entries = h.before; found = record { inside = h.inside; read = ap (λ (n : ℕ). entries_in n low high (drop at s)) (sym all) ∙ h.so_far } }
@@ -80,31 +80,31 @@ module _ {s : List ℕ} {at count low high next read least : ℕ} (h : Walking s
   walking_open open-range = rw h.least_is (least_open read low high (drop at s) open-range h.so_far)
 
   module _
-      (more : read < count) (open-range : low ≤ high) (r : NumberAt)
+      (more : read < count) (open-range : low ≤ high) (r : Result Number Wrong)
       (found : ReadNumber s (term_of (entry_in least high (drop next s))) (seek_entry least high (drop next s)) r)
     where
       -- The next line is none: its first wrong byte is that of all lines.
-      pub walking_stuck : {p : ℕ} → r ≡ Wrong p → FoundEntries s at count low high (TextAt-as-Wrong p)
+      pub walking_stuck : {w : Wrong} → r ≡ Err w → {x : Result ℕ Wrong} → x ≡ Err w → FoundEntries s at count low high x
       unfolding entries_in
-      walking_stuck e =
+      walking_stuck e is =
           let missed = read_wrong s _ _ r found e in
           let none : entry_in (least_after low h.before) high (drop next s) ≡ lost = rw (← h.least_is) (term_of_lost _ missed.refused) in
           let left : count ≡ read + suc (count - read - 1) = omega arith in
           let sought : rest_of (seek_entries count low high (drop at s)) ≡ rest_of (seek_entry least high (drop next s)) =
           rw h.least_is (entries_wrong read count low high (drop at s) open-range more h.so_far none) in
-          record {
+          rw is (record {
             refused = rw left (entriesIn-more read (suc (count - read - 1)) low high (drop at s) h.so_far ∙ onward_lost _ (onward_lost _ none));
             ends = ends_same sought missed.ends;
-          }
+          })
 
       -- The next line was read.
-      pub walking_again : {x n : ℕ} → r ≡ Is x n → Walking s at count low high n (read + 1) x
+      pub walking_again : {x : Number} → r ≡ Ok x → Walking s at count low high x.next (read + 1) x.value
       unfolding entries_in least_after
-      walking_again {x} {n} e =
+      walking_again {x} e =
           let f = read_is s _ _ r found e in
           let w = onward_sound f.read in
-          let is : entry_in least high (drop next s) ≡ got w.value (drop n s) = w.first ∙ ap (got w.value) (got_rest w.next) in
-          let one : entries_in 1 (least_after low h.before) high (drop next s) ≡ got (w.value ∷ []) (drop n s) =
+          let is : entry_in least high (drop next s) ≡ got w.value (drop x.next s) = w.first ∙ ap (got w.value) (got_rest w.next) in
+          let one : entries_in 1 (least_after low h.before) high (drop next s) ≡ got (w.value ∷ []) (drop x.next s) =
           rw (← h.least_is) (onward_got _ is ∙ onward_got _ refl) in
           record {
             inside = f.inside;

@@ -1,4 +1,3 @@
-pub mod CaseLaws
 pub mod LineLaws
 pub mod CheckLaws
 pub mod EntryLaws

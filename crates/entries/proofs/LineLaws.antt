@@ -9,7 +9,6 @@ use mathlib.Core.Path.{◌∙◌, ◌≡◌, ap, refl, sym}
 use native.Mathlib.Omega.{arith}
 use Rattle.kinds.specs.Sizes.{term_most}
 use Rattle.kinds.specs.Of.{term}
-use Rattle.command.specs.Answers.{of_words}
 use Rattle.command.specs.Command.{Command, command_of}
 use Rattle.command.specs.Entry.{Entry}
 use Rattle.command.specs.Words.{part}
@@ -34,7 +33,7 @@ use Rattle.message.specs.Text.{entry=}
 use Rattle.message.specs.Walk.{entry_line}
 use Rattle.kinds.specs.declared.Term.{Term}
 use Rattle.text.specs.declared.Number.{Number}
-use Rattle.text.specs.declared.Number.TheVariants.{Is as Number-as-Is, Bad as Number-as-Bad}
+use Rattle.std.specs.Prelude.{Option, Some, None, IsSome}
 
 -- ---- a line, and what is behind its parts
 
@@ -93,14 +92,24 @@ module _ (s : List ℕ) (at : ℕ) (stands : entry_line 1 term_most (drop at s) 
   pub stands_key : at + 6 ≤ length s
   stands_key = key_stands.1
 
-  module _ (q : Number) (found : FoundNumber s (number_in 1 term_most 58 (drop (at + 6) s)) q) where
-    -- Its term is none.
-    pub stands_no_term : q ≡ Number-as-Bad → entry_line 1 term_most (drop at s) ≡ lost
-    stands_no_term e = from_key ∙ onward_lost _ (number_bad s _ q found e)
+  module _ (q : Option Number) (found : FoundNumber s (number_in 1 term_most 58 (drop (at + 6) s)) q) where
+    -- A term stands behind it.
+    pub stands_term : IsSome q
+    stands_term = by q refl
+      where
+        by : (o : Option Number) → q ≡ o → IsSome o
+        by None e = absurd (stands (from_key ∙ onward_lost _ (number_bad s _ q found e)))
+        by (Some v) e = refl
 
-    module _ (x n : ℕ) (e : q ≡ Number-as-Is x n) where
+    module _ {v : Number} (e : q ≡ Some v) where
+      abbrev x : ℕ
+      x = v.value
+
+      abbrev n : ℕ
+      n = v.next
+
       from_term : entry_line 1 term_most (drop at s) ≡ digits_ended x (drop n s)
-      from_term = from_key ∙ onward_got _ (number_is s _ q found x n e).read
+      from_term = from_key ∙ onward_got _ (number_is s _ q found v e).read
 
       digits_stand : Stand s n
       digits_stand = read_stand s n (λ l. stands (from_term ∙ onward_lost _ l))
@@ -132,7 +141,7 @@ module _ (s : List ℕ) (at : ℕ) (stands : entry_line 1 term_most (drop at s) 
 
         -- The entry of the line.
         pub stands_line : {t : Term} → t ≡ term x →
-            Found s (entry_line 1 term_most (drop at s)) (record { term = t.0; command = of_words c.what c.duration c.a c.b }) (n + 33)
+            Found s (entry_line 1 term_most (drop at s)) (record { term = t.0; command = command_in c }) (n + 33)
         stands_line {t} e =
             let end = end_stands s (n + 32) end_there.0 end_there.1 in
             let past : n + 32 + 1 ≡ n + 33 = omega arith in

@@ -8,22 +8,17 @@ use mathlib.Core.Option.{some}
 use lib.ListN.{length, drop}
 use Rattle.kinds.specs.Sizes.{between, term_most}
 use Rattle.kinds.proofs.BetweenLaws.{between_in}
+use Rattle.text.specs.Found.{Found}
 use Rattle.text.specs.Reader.{got, lost}
 use Rattle.text.proofs.ReaderLaws.{got_value, got_rest, lost_never, onward_got, onward_sound}
 use Rattle.command.specs.Command.{legal_command}
-use Rattle.command.specs.Answers.{of_words}
 use Rattle.command.specs.Entry.{Entry, legal_entries}
 use Rattle.command.proofs.CommandLaws.{legal_ranged}
 use Rattle.command.proofs.EntryLaws.{legal_entries_first, legal_entries_wider}
-use Rattle.kinds.specs.declared.Term.{Term}
 use Rattle.message.specs.Message.{Message, entries_of}
 use Rattle.message.specs.Text.{entry_text, entries_text, entries, read, part_from}
 use Rattle.message.specs.Range.{legal_only, entry_in}
 use Rattle.message.specs.Walk.{entry_line, entries_from, Lie}
-use Rattle.entries.specs.Found.{FoundEntry}
-use Rattle.entries.specs.declared.EntryAt.{EntryAt}
-use Rattle.entries.specs.declared.EntryAt.TheVariants.{Is, End}
-use Rattle.entries.proofs.CaseLaws.{entry_at, entry_none}
 use Rattle.entries.proofs.LineLaws.{entry_in_line}
 use Rattle.message.proofs.LegalLaws.{legal_held}
 use Rattle.message.proofs.TextLaws.{entry_written, entries_written}
@@ -53,33 +48,16 @@ module _ (e : Entry) (term_in : between 1 term_most e.term ≡ true) (legal : le
       let o = only w.value w.left rest w.next in
       w.first ∙ ap (λ (x : Entry). got x w.left) o.0 ∙ ap (λ (q : List ℕ). got e q) o.1
 
--- What a walk finds where a line stands before others: its entry, and the others behind it.
-pub record Stood (s : List ℕ) (e : Entry) (es : List Entry) (t : Term) (what duration a b n : ℕ) : Type 0 where
-  pub entry_is : e ≡ record { term = t.0; command = of_words what duration a b }
-  pub others : drop n s ≡ entries_text es
-  pub inside : n ≤ length s
-
 module _
-    (s : List ℕ) (at : ℕ) (e : Entry) (es : List Entry) (here : drop at s ≡ entries_text (e ∷ es))
-    (low : ℕ) (from_one : 1 ≤ low) (legal : legal_entries low term_most (e ∷ es) ≡ true)
+    (s : List ℕ) (e : Entry) (es : List Entry) (here : s ≡ entries_text (e ∷ es)) (low : ℕ) (from_one : 1 ≤ low)
+    (legal : legal_entries low term_most (e ∷ es) ≡ true)
   where
-    stands : entry_line 1 term_most (drop at s) ≡ got e (entries_text es)
+    -- The first line is read.
+    stood : entry_line 1 term_most s ≡ got e (entries_text es)
     unfolding entries_text
-    stands =
+    stood =
         let f = legal_entries_first low term_most e es legal in
         rw here (line_of e (between_in 1 term_most e.term (omega (arith, f.from)) f.to) f.command (entries_text es))
-
-    -- A line stands there.
-    pub stood_there : entry_line 1 term_most (drop at s) ≡ lost → ⊥
-    stood_there h = lost_never (sym h ∙ stands)
-
-    module _ (r : EntryAt) (found : FoundEntry s (entry_line 1 term_most (drop at s)) r) where
-      -- It finds that line.
-      pub stood_at : (t : Term) (what duration a b n : ℕ) → r ≡ Is t what duration a b n → Stood s e es t what duration a b n
-      stood_at t what duration a b n h =
-          let f = entry_at s _ r found t what duration a b n h in
-          let same = sym stands ∙ f.read in
-          record { entry_is = got_value same; others = sym (got_rest same); inside = f.inside }
 
 -- ---- all lines
 
@@ -99,42 +77,36 @@ lie_none n s lie h = empty (entries_from n s) (omega (arith, lie.count_is))
     empty (e ∷ es) h = absurd (omega arith)
 
 -- What a walk finds where n lines stand: the first entry, and one line less behind it.
-pub record Walked (s : List ℕ) (at n : ℕ) (t : Term) (what duration a b next : ℕ) : Type 0 where
-  pub entries_are : entries_from n (drop at s) ≡ record { term = t.0; command = of_words what duration a b } ∷ entries_from (n - 1) (drop next s)
+pub record Walked (s : List ℕ) (n : ℕ) (e : Entry) (next : ℕ) : Type 0 where
+  pub entries_are : entries_from n s ≡ e ∷ entries_from (n - 1) (drop next s)
   pub lie : Lie (n - 1) (drop next s)
 
-module _ (s : List ℕ) (at n : ℕ) (lie : Lie n (drop at s)) (more : 0 < n) where
+module _ (s : List ℕ) (n : ℕ) (lie : Lie n s) (more : 0 < n) where
   -- A line stands there.
-  pub lie_there : entry_line 1 term_most (drop at s) ≡ lost → ⊥
-  lie_there = go (entries_from n (drop at s)) lie.text_is lie.count_is lie.legal
+  pub lie_there : entry_line 1 term_most s ≡ lost → ⊥
+  lie_there h = go (entries_from n s) lie.text_is lie.count_is lie.legal
     where
-      go : (es : List Entry) → drop at s ≡ entries_text es → length es ≡ n → legal_entries 1 term_most es ≡ true → entry_line 1 term_most (drop at s) ≡ lost → ⊥
-      go [] here size legal = absurd (omega arith)
-      go (e ∷ es) here size legal = stood_there s at e es here 1 (omega arith) legal
+      go : (es : List Entry) → s ≡ entries_text es → length es ≡ n → legal_entries 1 term_most es ≡ true → ⊥
+      go [] here size legal = omega arith
+      go (e ∷ es) here size legal = lost_never (sym h ∙ stood s e es here 1 (omega arith) legal)
 
-  module _ (r : EntryAt) (found : FoundEntry s (entry_line 1 term_most (drop at s)) r) where
-    -- The walk is not at its end.
-    pub lie_on : r ≡ End → ⊥
-    lie_on h = lie_there (entry_none s _ r found h)
-
-    -- It finds a line.
-    pub lie_next : (t : Term) (what duration a b next : ℕ) → r ≡ Is t what duration a b next → Walked s at n t what duration a b next
-    lie_next t what duration a b next h = go (entries_from n (drop at s)) refl lie.text_is lie.count_is lie.legal
-      where
-        go :
-            (es : List Entry) → entries_from n (drop at s) ≡ es → drop at s ≡ entries_text es → length es ≡ n → legal_entries 1 term_most es ≡ true
-            → Walked s at n t what duration a b next
-        go [] are here size legal = absurd (omega arith)
-        go (e ∷ es) are here size legal =
-            let first = legal_entries_first 1 term_most e es legal in
-            let stood = stood_at s at e es here 1 (omega arith) legal r found t what duration a b next h in
-            let others-legal = legal_entries_wider e.term 1 term_most term_most es first.from (omega arith) first.rest in
-            let one_less : n - 1 ≡ length es = omega arith in
-            let others : entries_from (n - 1) (drop next s) ≡ es = rw (one_less, stood.others) (entries_from_lem 1 term_most es others-legal) in
-            record {
-              entries_are = rw (others, ← stood.entry_is) are;
-              lie = record { text_is = stood.others ∙ ap entries_text (sym others); count_is = ap length others ∙ sym one_less; legal = rw others others-legal };
-            }
+  -- It is the one that is found.
+  pub lie_next : {e : Entry} {next : ℕ} → Found s (entry_line 1 term_most s) e next → Walked s n e next
+  lie_next {e} {next} found = go (entries_from n s) refl lie.text_is lie.count_is lie.legal
+    where
+      go : (es : List Entry) → entries_from n s ≡ es → s ≡ entries_text es → length es ≡ n → legal_entries 1 term_most es ≡ true → Walked s n e next
+      go [] are here size legal = absurd (omega arith)
+      go (x ∷ es) are here size legal =
+          let first = legal_entries_first 1 term_most x es legal in
+          let same = sym (stood s x es here 1 (omega arith) legal) ∙ found.read in
+          let behind : drop next s ≡ entries_text es = sym (got_rest same) in
+          let others-legal = legal_entries_wider x.term 1 term_most term_most es first.from (omega arith) first.rest in
+          let one_less : n - 1 ≡ length es = omega arith in
+          let others : entries_from (n - 1) (drop next s) ≡ es = rw (one_less, behind) (entries_from_lem 1 term_most es others-legal) in
+          record {
+            entries_are = rw (others, ← got_value same) are;
+            lie = record { text_is = behind ∙ ap entries_text (sym others); count_is = ap length others ∙ sym one_less; legal = rw others others-legal };
+          }
 
 -- ---- the part of a message
 

@@ -1,24 +1,21 @@
 -- What the code's answer says of an entry line, and of several, that are looked for in a text s. Assumes nothing.
-use Rattle.std.specs.Prelude.{ℕ, ◌+◌, Bool, true, false, List, ◌≡◌, drop}
+use Rattle.std.specs.Prelude.{ℕ, ◌+◌, Bool, true, false, List, ◌≡◌, drop, Result, Ok, Err}
 use Rattle.text.specs.Reader.{Got, lost, Reader, ◌>>=◌, ◌>>◌, literal, onward, pure}
 use Rattle.text.specs.Hex.{hex_bytes}
 use Rattle.text.specs.Line.{LF}
 use Rattle.text.specs.Found.{Found}
-use Rattle.command.specs.Answers.{of_words}
 use Rattle.command.specs.Command.{command_size, command_of}
 use Rattle.command.specs.Entry.{Entry}
+use Rattle.rows.specs.Words.{command_in}
 use Rattle.message.specs.Range.{entries_in, legal_only}
 use Rattle.begins.specs.Entries.{seek_entries}
 use Rattle.seek.specs.Spotted.{Missed}
-use Rattle.seek.specs.declared.TextAt.{TextAt}
-use Rattle.seek.specs.declared.TextAt.TheVariants.{Is as TextAt-as-Is, Wrong as TextAt-as-Wrong}
-use Rattle.entries.specs.declared.EntryAt.{EntryAt}
-use Rattle.entries.specs.declared.EntryAt.TheVariants.{Is, End}
+use Rattle.seek.specs.declared.Wrong.{Wrong}
+use Rattle.entries.specs.declared.Entry.{Entry as Entry-as-told}
 
--- An entry, its command by its four words.
-abbrev pub FoundEntry : List ℕ → Got Entry → EntryAt → Type 0
-FoundEntry s g (Is t what duration a b n) = Found s g (record { term = t.0; command = of_words what duration a b }) n
-FoundEntry s g End = g ≡ lost
+-- The entry that the code tells, its command by words.
+abbrev pub entry_of : Entry-as-told → Entry
+entry_of e = record { term = e.term.0; command = command_in e.command }
 
 -- The term of what is found: all that is told of a line that is checked.
 abbrev pub term_of : Got Entry → Got ℕ
@@ -41,7 +38,7 @@ pub record FoundAll (s : List ℕ) (at count low high n : ℕ) : Type 0 where
   pub entries : List Entry
   pub found : Found s (entries_in count low high (drop at s)) entries n
 
--- They are all there; or one is none, and n is the place of the first wrong byte.
-abbrev pub FoundEntries : List ℕ → ℕ → ℕ → ℕ → ℕ → TextAt → Type 0
-FoundEntries s at count low high (TextAt-as-Is n) = FoundAll s at count low high n
-FoundEntries s at count low high (TextAt-as-Wrong n) = Missed s (entries_in count low high (drop at s)) (seek_entries count low high (drop at s)) n
+-- They are all there; or one is none, and the place is that of the first wrong byte.
+abbrev pub FoundEntries : List ℕ → ℕ → ℕ → ℕ → ℕ → Result ℕ Wrong → Type 0
+FoundEntries s at count low high (Ok n) = FoundAll s at count low high n
+FoundEntries s at count low high (Err w) = Missed s (entries_in count low high (drop at s)) (seek_entries count low high (drop at s)) w.place

@@ -4,33 +4,29 @@
 
 ghost use Rattle.std.specs.Prelude.{◌≡◌, ◌≤◌, length, drop};
 ghost use Rattle.kinds.specs.Sizes.{term_most};
+ghost use Rattle.std.specs.Iterator.{YieldsFirstBy, item_count};
+ghost use Rattle.text.specs.Found.{Found};
 ghost use Rattle.text.specs.Reader.{lost};
 ghost use Rattle.message.specs.Range.{entry_in};
-ghost use Rattle.message.specs.Walk.{entry_line};
-ghost use Rattle.begins.specs.Digits.{seek_number};
+ghost use Rattle.message.specs.Walk.{entry_line, entries_from, Lie};
 ghost use Rattle.begins.specs.Entries.{seek_entry};
-ghost use Rattle.seek.specs.Spotted.{Ends, ReadNumber};
-ghost use Rattle.entries.specs.Found.{FoundEntry, FoundTail, FoundEntries, term_of};
+ghost use Rattle.seek.specs.Spotted.{ReadNumber};
+ghost use Rattle.entries.specs.Found.{entry_of, FoundTail, FoundEntries, term_of};
 
 use kinds::Term;
-use seek::{NumberAt, TextAt};
-use text::{Next, Number};
+use rows::Words;
+use seek::Wrong;
+use std::marker::Model;
+use text::{Bounds, Number};
 
 // The byte between an entry's term and its command.
-const COLON: u8 = 58;
+const COLON: u8 = b':';
 
-// An entry, its command by its four words (motor and kind share the first), and the place past its line.
+// An entry: its term, and its command by words.
 #[derive(Clone, Copy)]
-pub enum EntryAt {
-    Is {
-        term: Term,
-        what: u32,
-        duration: u32,
-        a: u32,
-        b: u32,
-        next: usize,
-    },
-    End,
+pub struct Entry {
+    pub term: Term,
+    pub command: Words,
 }
 
 // The bytes of the key `entry=`.
@@ -38,27 +34,81 @@ const KEY: usize = 6;
 // The bytes behind an entry's colon: the digits of its command and the end of the line.
 const TAIL: usize = digits::MANY + 1;
 
-// The entry line that stands at a place. Whoever walks over lines has had them checked, so nothing is checked here: a key is stepped over, and digits
-// are made words.
-pub fn next_entry(s: &[u8], at: usize) -> EntryAt
+// The entry of the line that stands at a place, and the place past it. Whoever walks over lines has had them checked, so nothing is checked here: a key is
+// stepped over, and digits are made words.
+pub fn next_entry(s: &[u8], at: usize) -> (Entry, usize)
     requires { entry_line 1 term_most (drop at s.now) ≡ lost → ⊥ }
-    ensures { FoundEntry s.now (entry_line 1 term_most (drop at s.now)) result }
+    ensures { Found s.now (entry_line 1 term_most (drop at s.now)) (entry_of result.0) result.1 }
 {
-    let Number::Is { value, next } = scan::number_in(s, at + KEY, 1, kinds::TERM_MOST, COLON) else {
-        // Never: a term stands there.
-        return EntryAt::End;
+    let terms = Bounds {
+        lo: 1,
+        hi: kinds::TERM_MOST,
     };
-    let c = digits::words_of(s, next);
-    let term = Term::of(value);
-    EntryAt::Is {
-        term,
-        what: c.what,
-        duration: c.duration,
-        a: c.a,
-        b: c.b,
-        next: next + TAIL,
+    let term = scan::number_in(s, at + KEY, terms, COLON).unwrap();
+    let entry = Entry {
+        term: Term::from(term.value),
+        command: digits::words_of(s, term.next),
+    };
+    (entry, term.next + TAIL)
+}
+
+// ---- a walk over entry lines
+
+// Entry lines that were checked, and how many of them are left: seen as the list of their entries. They stay where they lie.
+#[derive(Drop)]
+pub struct Entries<'a> {
+    lines: &'a [u8],
+    left: u32,
+}
+
+impl<'a> Model for Entries<'a> {
+    ghost use Rattle.std.specs.Prelude.{List};
+    ghost use Rattle.command.specs.Entry.{Entry};
+    ghost use Rattle.message.specs.Walk.{entries_from, Lie};
+
+    ghost Value = { List Entry };
+
+    ghost view = { λ e. entries_from e.left e.lines.now };
+
+    ghost invariant = { λ e. Lie e.left e.lines.now };
+}
+
+impl<'a> Entries<'a> {
+    // So many entry lines, which these bytes are.
+    pub fn new(lines: &'a [u8], count: u32) -> Entries<'a>
+        requires { Lie count lines.now }
+        ensures { result ≡ entries_from count lines.entry.now }
+    {
+        Entries { lines, left: count }
+    }
+
+    // How many are left.
+    pub fn many(&self) -> u32
+        ensures { result ≡ length self.now }
+    {
+        self.left
     }
 }
+
+impl<'a> Iterator for Entries<'a> {
+    type Item = Entry;
+
+    ghost next_gives = { YieldsFirstBy entry_of (λ es. es) };
+
+    ghost remaining = { item_count (λ es. es) };
+
+    fn next(&mut self) -> Option<Entry> {
+        if self.left == 0 {
+            return None;
+        }
+        let (entry, next) = next_entry(self.lines, 0);
+        self.lines = &self.lines[next..];
+        self.left -= 1;
+        Some(entry)
+    }
+}
+
+// ---- lines that are checked
 
 // Whether the digits of a legal command and the end of its line stand at a place.
 fn is_tail(s: &[u8], at: usize) -> bool
@@ -68,64 +118,47 @@ fn is_tail(s: &[u8], at: usize) -> bool
     if s.len() - at < TAIL {
         return false;
     }
-    if !digits::are_legal(s, at) {
-        return false;
-    }
-    s[at + digits::MANY] == text::LF
+    digits::are_legal(s, at) && s[at + digits::MANY] == text::LF
 }
 
-// The first wrong byte of a term that is none. (A function of its own, since a slice that a loop hands to a far call has to lie in memory: D57.)
-fn wrong_term(s: &[u8], at: usize, low: u32, high: u32) -> usize
-    requires { at ≤ length s.now }
-    ensures { Ends s.now (seek_number low high 58 (drop at s.now)) result }
-{
-    seek::number_place(s, at, low, high, COLON)
-}
-
-// The entry line at a place, its term in low..high and its command legal: its term, and the place past it; or that of its first wrong byte, looked for in
+// The entry line at a place, its term in a range and its command legal: its term, and the place past it; or that of its first wrong byte, looked for in
 // the part that is none.
-fn entry_in(s: &[u8], at: usize, low: u32, high: u32) -> NumberAt
-    requires { (at ≤ length s.now) × (low ≤ high) }
-    ensures { ReadNumber s.now (term_of (entry_in low high (drop at s.now))) (seek_entry low high (drop at s.now)) result }
+// (lo ≤ hi is asked, not promised by `Bounds`: the range of no entries is 1 to 0 (`span`).)
+fn entry_in(s: &[u8], at: usize, terms: Bounds) -> Result<Number, Wrong>
+    requires { (at ≤ length s.now) × (terms.lo ≤ terms.hi) }
+    ensures { ReadNumber s.now (term_of (entry_in terms.lo terms.hi (drop at s.now))) (seek_entry terms.lo terms.hi (drop at s.now)) result }
 {
-    let Next::At(p) = scan::stands(s, at, b"entry=") else {
-        return NumberAt::Wrong {
-            place: seek::literal_place(s, at, b"entry="),
-        };
-    };
-    let Number::Is { value, next } = scan::number_in(s, p, low, high, COLON) else {
-        return NumberAt::Wrong {
-            place: wrong_term(s, p, low, high),
-        };
-    };
-    if !is_tail(s, next) {
-        return NumberAt::Wrong {
-            place: commandplace::tail_place(s, next),
-        };
+    let p = keys::literal_in(s, at, b"entry=")?;
+    let term = keys::number_in(s, p, terms, COLON)?;
+    if !is_tail(s, term.next) {
+        return Err(Wrong {
+            place: commandplace::tail_place(s, term.next),
+        });
     }
-    NumberAt::Is {
-        value,
-        next: next + TAIL,
-    }
+    Ok(Number {
+        value: term.value,
+        next: term.next + TAIL,
+    })
 }
 
-// So many entry lines, their terms from low on and never falling: the place past them, or that of their first wrong byte.
-pub fn entries_in(s: &[u8], at: usize, count: u32, low: u32, high: u32) -> TextAt
-    requires { (at ≤ length s.now) × (low ≤ high) }
-    ensures { FoundEntries s.now at count low high result }
+// So many entry lines, their terms in a range and never falling: the place past them, or that of their first wrong byte.
+pub fn entries_in(s: &[u8], at: usize, count: u32, terms: Bounds) -> Result<usize, Wrong>
+    requires { (at ≤ length s.now) × (terms.lo ≤ terms.hi) }
+    ensures { FoundEntries s.now at count terms.lo terms.hi result }
 {
     let mut next = at;
-    let mut read: u32 = 0;
-    let mut least = low;
-    while read < count {
-        match entry_in(s, next, least, high) {
-            NumberAt::Is { value, next: p } => {
-                next = p;
-                least = value;
-            }
-            NumberAt::Wrong { place } => return TextAt::Wrong { place },
-        }
-        read += 1;
+    let mut least = terms.lo;
+    for _ in 0..count {
+        let term = entry_in(
+            s,
+            next,
+            Bounds {
+                lo: least,
+                hi: terms.hi,
+            },
+        )?;
+        next = term.next;
+        least = term.value;
     }
-    TextAt::Is { next }
+    Ok(next)
 }

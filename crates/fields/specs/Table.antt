@@ -1,5 +1,5 @@
--- The table of fields in the code's own types: which field follows which, and what numbers in their slots say. Assumes nothing.
-use Rattle.std.specs.Prelude.{ℕ, zero, suc, List}
+-- The table of fields in the code's own types: which type and which field each is, and what numbers in their slots say. Assumes nothing.
+use Rattle.std.specs.Prelude.{ℕ, List}
 use Rattle.kinds.specs.Of.{hub, place, term}
 use Rattle.message.specs.Fields.{
   MessageType,
@@ -61,55 +61,17 @@ field_is Chosen = chosen=
 field_is End = end=
 field_is Length = length=
 
--- ---- the order of the fields
-
--- How many fields a type has.
-abbrev pub fields_many : Kind → ℕ
-fields_many Kind-as-VoteRequest = 5
-fields_many Kind-as-VoteYes = 6
-fields_many Kind-as-VoteNo = 3
-fields_many Kind-as-Append = 7
-fields_many Kind-as-AppendYes = 4
-fields_many Kind-as-AppendNo = 4
-
--- The first field of a type's own. (A vote-no has none; any will do.)
-abbrev pub first_own : Kind → Field
-first_own Kind-as-VoteRequest = Last
-first_own Kind-as-VoteYes = Last
-first_own Kind-as-VoteNo = End
-first_own Kind-as-Append = Prev
-first_own Kind-as-AppendYes = End
-first_own Kind-as-AppendNo = Length
-
--- The field behind a field. (Behind the last there is none; any will do.)
-abbrev pub field_after : Kind → Field → Field
-field_after k Term = From
-field_after k From = To
-field_after k To = first_own k
-field_after k Last = Ballot
-field_after k Ballot = Count
-field_after k Count = Term
-field_after k Prev = Prevterm
-field_after k Prevterm = Chosen
-field_after k Chosen = Count
-field_after k End = Term
-field_after k Length = Term
-
--- The field of line i, from 0 on.
-unfoldable pub field_at : Kind → ℕ → Field
-field_at k zero = Term
-field_at k (suc i) = field_after k (field_at k i)
-
 -- ---- the fields of numbers
 
--- What a message of a type says by the numbers of its own slots.
-abbrev pub body_at : Kind → ℕ → ℕ → ℕ → ℕ → Body
-body_at Kind-as-VoteRequest a b c n = VoteRequest (place a) (term b)
-body_at Kind-as-VoteYes a b c n = VoteYes (place a) (term b) n
-body_at Kind-as-VoteNo a b c n = VoteNo
-body_at Kind-as-Append a b c n = Append (place a) (term b) (place c) n
-body_at Kind-as-AppendYes a b c n = AppendYes (place a)
-body_at Kind-as-AppendNo a b c n = AppendNo (place a)
+-- What a message of a type says by the numbers of its own fields.
+abbrev pub body_by : Kind → List ℕ → Body
+body_by Kind-as-VoteRequest ns = VoteRequest (place (number_of last= ns)) (term (number_of ballot= ns))
+body_by Kind-as-VoteYes ns = VoteYes (place (number_of last= ns)) (term (number_of ballot= ns)) (number_of count= ns)
+body_by Kind-as-VoteNo ns = VoteNo
+body_by Kind-as-Append ns =
+    Append (place (number_of prev= ns)) (term (number_of prevterm= ns)) (place (number_of chosen= ns)) (number_of count= ns)
+body_by Kind-as-AppendYes ns = AppendYes (place (number_of end= ns))
+body_by Kind-as-AppendNo ns = AppendNo (place (number_of length= ns))
 
 -- What it says by all its numbers.
 abbrev pub fields_by : Kind → List ℕ → Fields
@@ -118,5 +80,5 @@ fields_by k ns =
       term = term (number_of term= ns);
       from = hub (number_of from= ns);
       to = hub (number_of to= ns);
-      body = body_at k (number_of prev= ns) (number_of prevterm= ns) (number_of chosen= ns) (number_of count= ns);
+      body = body_by k ns;
     }

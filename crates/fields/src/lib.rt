@@ -1,15 +1,15 @@
-// The table of a message's fields: which follows which, the slot of each one's number, and what all numbers say. The range of each number is
+// The table of a message's fields: those of each type in their order, the slot of each one's number, and what all numbers say. The range of each number is
 // the matter of `ranges`, and reading by both that of `lines`.
 #![tactic(auto)]
 
-ghost use Rattle.std.specs.Prelude.{◌≡◌, ◌<◌};
-ghost use Rattle.message.specs.Fields.{slot};
-ghost use Rattle.fields.specs.Table.{field_is, fields_many, first_own, field_after, body_at, fields_by};
+ghost use Rattle.std.specs.Prelude.{◌≡◌, ◌<◌, map};
+ghost use Rattle.message.specs.Fields.{fields, slot};
+ghost use Rattle.fields.specs.Table.{type_is, field_is, body_by, fields_by};
 
-use kinds::{Hub, Place, Term};
 use message::{Body, Fields};
 
 // The slots of the fields' numbers. Fields that no type has together share one.
+// (Numbers in slots, and no struct: one loop reads the fields of every type (`lines`), and the definition `slot` says where each stands.)
 pub const TERM: usize = 0;
 
 const FROM: usize = 1;
@@ -33,7 +33,7 @@ pub const CHOSEN: usize = 5;
 const COUNT: usize = 6;
 
 // The six types of message.
-#[derive(Clone, Copy)]
+#[derive(Clone, Copy, Debug, PartialEq, Eq)]
 pub enum Kind {
     VoteRequest,
     VoteYes,
@@ -44,7 +44,7 @@ pub enum Kind {
 }
 
 // The fields of all types.
-#[derive(Clone, Copy)]
+#[derive(Clone, Copy, Debug, PartialEq, Eq)]
 pub enum Field {
     Term,
     From,
@@ -59,117 +59,107 @@ pub enum Field {
     Length,
 }
 
-// ---- the order of fields
-
-// How many lines a type has between the line `type` and its entries.
-pub fn fields_many(kind: Kind) -> usize
-    ensures { result ≡ fields_many kind }
-{
-    match kind {
-        Kind::VoteRequest => 5,
-        Kind::VoteYes => 6,
-        Kind::VoteNo => 3,
-        Kind::Append => 7,
-        Kind::AppendYes => 4,
-        Kind::AppendNo => 4,
+impl Kind {
+    // The fields of a type, in the order of their lines between the line `type` and the entries.
+    #[tactic(auto, unfolding(message::specs::Fields::fields, message::specs::Fields::own_fields))]
+    pub fn fields(self) -> &'static [Field]
+        ensures { map field_is result.now ≡ fields (type_is self) }
+    {
+        match self {
+            Kind::VoteRequest => &[
+                Field::Term,
+                Field::From,
+                Field::To,
+                Field::Last,
+                Field::Ballot,
+            ],
+            Kind::VoteYes => &[
+                Field::Term,
+                Field::From,
+                Field::To,
+                Field::Last,
+                Field::Ballot,
+                Field::Count,
+            ],
+            Kind::VoteNo => &[Field::Term, Field::From, Field::To],
+            Kind::Append => &[
+                Field::Term,
+                Field::From,
+                Field::To,
+                Field::Prev,
+                Field::Prevterm,
+                Field::Chosen,
+                Field::Count,
+            ],
+            Kind::AppendYes => &[Field::Term, Field::From, Field::To, Field::End],
+            Kind::AppendNo => &[Field::Term, Field::From, Field::To, Field::Length],
+        }
     }
 }
 
-// The first field of a type's own. (A vote-no has none; any will do.)
-fn first_own(kind: Kind) -> Field
-    ensures { result ≡ first_own kind }
-{
-    match kind {
-        Kind::VoteRequest => Field::Last,
-        Kind::VoteYes => Field::Last,
-        Kind::VoteNo => Field::End,
-        Kind::Append => Field::Prev,
-        Kind::AppendYes => Field::End,
-        Kind::AppendNo => Field::Length,
-    }
-}
-
-// The field behind a field. (Behind the last there is none; any will do.)
-pub fn after(kind: Kind, field: Field) -> Field
-    ensures { result ≡ field_after kind field }
-{
-    match field {
-        Field::Term => Field::From,
-        Field::From => Field::To,
-        Field::To => first_own(kind),
-        Field::Last => Field::Ballot,
-        Field::Ballot => Field::Count,
-        Field::Count => Field::Term,
-        Field::Prev => Field::Prevterm,
-        Field::Prevterm => Field::Chosen,
-        Field::Chosen => Field::Count,
-        Field::End => Field::Term,
-        Field::Length => Field::Term,
-    }
-}
-
-// The slot of a field's number.
-pub fn slot_of(field: Field) -> usize
-    ensures { (result ≡ slot (field_is field)) × (result < 7) }
-{
-    match field {
-        Field::Term => TERM,
-        Field::From => FROM,
-        Field::To => TO,
-        Field::Last => LAST,
-        Field::Ballot => BALLOT,
-        Field::Count => COUNT,
-        Field::Prev => PREV,
-        Field::Prevterm => PREVTERM,
-        Field::Chosen => CHOSEN,
-        Field::End => END,
-        Field::Length => LENGTH,
+impl Field {
+    // The slot of a field's number.
+    // (No cast of the enum: fields that no type has together share a slot, and an enum's numbers differ.)
+    pub fn slot(self) -> usize
+        ensures { (result ≡ slot (field_is self)) × (result < 7) }
+    {
+        match self {
+            Field::Term => TERM,
+            Field::From => FROM,
+            Field::To => TO,
+            Field::Last => LAST,
+            Field::Ballot => BALLOT,
+            Field::Count => COUNT,
+            Field::Prev => PREV,
+            Field::Prevterm => PREVTERM,
+            Field::Chosen => CHOSEN,
+            Field::End => END,
+            Field::Length => LENGTH,
+        }
     }
 }
 
 // ---- what numbers say
 
 // What a message of this type says by the numbers of its own slots.
-fn body_of(kind: Kind, first: u32, second: u32, third: u32, count: u32) -> Body
-    ensures { result ≡ body_at kind first second third count }
+fn body_of(kind: Kind, ns: &[u32; 7]) -> Body
+    ensures { result ≡ body_by kind ns.now }
 {
-    let place = Place::of(first);
-    let term = Term::of(second);
-    let chosen = Place::of(third);
     match kind {
         Kind::VoteRequest => Body::VoteRequest {
-            last: place,
-            ballot: term,
+            last: ns[LAST].into(),
+            ballot: ns[BALLOT].into(),
         },
         Kind::VoteYes => Body::VoteYes {
-            last: place,
-            ballot: term,
-            count,
+            last: ns[LAST].into(),
+            ballot: ns[BALLOT].into(),
+            count: ns[COUNT],
         },
         Kind::VoteNo => Body::VoteNo,
         Kind::Append => Body::Append {
-            prev: place,
-            prevterm: term,
-            chosen,
-            count,
+            prev: ns[PREV].into(),
+            prevterm: ns[PREVTERM].into(),
+            chosen: ns[CHOSEN].into(),
+            count: ns[COUNT],
         },
-        Kind::AppendYes => Body::AppendYes { end: place },
-        Kind::AppendNo => Body::AppendNo { length: place },
+        Kind::AppendYes => Body::AppendYes {
+            end: ns[END].into(),
+        },
+        Kind::AppendNo => Body::AppendNo {
+            length: ns[LENGTH].into(),
+        },
     }
 }
 
 // What a message of this type says by its numbers.
+// (A type and its numbers are no struct: `ranges` is asked while the numbers are still being read.)
 pub fn fields_of(kind: Kind, ns: &[u32; 7]) -> Fields
     ensures { result ≡ fields_by kind ns.now }
 {
-    let body = body_of(kind, ns[PREV], ns[PREVTERM], ns[CHOSEN], ns[COUNT]);
-    let term = Term::of(ns[TERM]);
-    let from = Hub::of(ns[FROM]);
-    let to = Hub::of(ns[TO]);
     Fields {
-        term,
-        from,
-        to,
-        body,
+        term: ns[TERM].into(),
+        from: ns[FROM].into(),
+        to: ns[TO].into(),
+        body: body_of(kind, ns),
     }
 }

@@ -1,20 +1,25 @@
 -- Laws of a message that is for this hub and not stale: which outcome it comes to by what the code tests, and what holds where it is obeyed.
 -- Assumes nothing.
-use Prim.Native.Nat.{ℕ, ◌<◌}
+use Prim.Native.Nat.{ℕ, ◌<◌, ◌≤◌}
 use native.Mathlib.Omega.{arith}
 use mathlib.Core.Path.{◌≡◌, refl, sym, ◌∙◌, ap, subst}
 use mathlib.Core.Bool.{true, false}
 use mathlib.Core.List.{List}
-use borrow.Author.Tests.{ne_eqb, ltb-true}
+use borrow.Author.Tests.{ne_eqb, lt-ltb, le-ltb}
 use lib.Dec.{ltb}
+use Rattle.std.specs.Prelude.{Option, Result, Ok, Err}
+use Rattle.std.specs.Option.{unwrap_or, ok_or}
 use Rattle.kinds.specs.Sizes.{Who}
+use Rattle.kinds.specs.Refusal.{number_of, outcome_of}
+use Rattle.kinds.specs.declared.Refusal.{Refusal}
+use Rattle.kinds.specs.declared.Refusal.TheVariants.{Contradicting, NothingNew}
 use Rattle.message.specs.declared.Fields.{Fields}
 use Rattle.state.specs.declared.Head.{Head}
 use Rattle.state.specs.State.{State}
 use Rattle.state.specs.Legal.{legal_state}
 use Rattle.state.specs.Head.{head_of}
 use Rattle.state.specs.Image.{image, state_in}
-use Rattle.rules.specs.Outcome.{Next, done, refuses, contradicting, nothing_new}
+use Rattle.rules.specs.Outcome.{Next, done, refuses}
 use Rattle.rules.specs.Events.{with_term}
 use Rattle.rules.specs.Receive.{Effect, idle, effect, rule, contradicts, follower_at, after_raise, at_own_term, receive}
 use Rattle.rules.specs.Step.{over, written}
@@ -24,61 +29,54 @@ use Rattle.promise.specs.Promise.{Ready, Raises, left_by, ruled_by, said_by}
 use Rattle.promise.proofs.PromiseLaws.{ready_legal, ready_next, ready_head, ready_term, ready_who}
 use Rattle.promise.proofs.LostLaws.{raised_legal}
 use Rattle.refuse.specs.Received.{body_in, message_heard}
-use Rattle.obey.specs.declared.Did.{Did}
+use Rattle.obey.specs.declared.heard.Heard.{Heard}
 use Rattle.obey.specs.Obeyed.{did_by, Obeyed, Obeys}
 use Rattle.obey.proofs.SenderLaws.{message_legal}
-use Rattle.fresh.specs.declared.Told.{Told}
-use Rattle.fresh.specs.Comes.{told_by, Comes, Addressed}
-
--- An outcome, and how many bytes were written.
-abbrev pub told : ℕ → ℕ → Told
-told outcome bytes = record { outcome = outcome; bytes = bytes }
+use Rattle.fresh.specs.Comes.{bytes_of, Comes, Addressed}
 
 -- ---- what an event comes to
 
 -- A refusal that writes nothing leaves every byte.
-pub refused_comes : {n : Next} (s : State) (l out : List ℕ) (k : ℕ) → n ≡ refuses s k → (k ≡ done → ⊥) → Comes n l out (told k 0) l out
+pub refused_comes : {n : Next} (s : State) (l out : List ℕ) (r : Refusal) → n ≡ refuses s (number_of r) → (number_of r ≡ done → ⊥) → Comes n l out (Err r) l out
 unfolding left_by written over
-refused_comes s l out k e h = rw e (record { outcome = refl; bytes = refl; state_left = rw (ne_eqb k done h); output_left = refl })
-
--- What is told of a rule, by what it did.
-told_is : {d e : Did} {t : Told} (k : ℕ) → t ≡ told_by d k → d ≡ e → (t.outcome ≡ (told_by e k).outcome) × (t.bytes ≡ (told_by e k).bytes)
-told_is k told did =
-    let t = told ∙ ap (λ (x : Did). told_by x k) did in
-    (ap (λ (x : Told). x.outcome) t, ap (λ (x : Told). x.bytes) t)
+refused_comes s l out r e h = rw e (record { outcome = refl; bytes = refl; state_left = rw (ne_eqb (number_of r) done h); output_left = refl })
 
 -- After a higher term: outcome 0, whatever the rule did.
 raised_comes :
-    (r : State) (e : Effect) {d : Did} {t : Told} {l l1 l' out out' : List ℕ} → l1 ≡ image r → Obeyed e l1 out d l' out' → t ≡ told_by d done
-    → Comes (after_raise r e) l out t l' out'
+    (s : State) (e : Effect) {d : Option ℕ} {n : ℕ} {l l1 l' out out' : List ℕ} → l1 ≡ image s → Obeyed e l1 out d l' out' → n ≡ unwrap_or d 0
+    → Comes (after_raise s e) l out (Ok n) l' out'
 unfolding after_raise did_by ruled_by said_by left_by written
-raised_comes r idle el o told =
-    let t = told_is done told o.returned in
-    record { outcome = t.0; bytes = t.1; state_left = o.state_left ∙ el; output_left = o.output_left }
-raised_comes r (effect next message) el o told =
-    let t = told_is done told o.returned in
-    record { outcome = t.0; bytes = t.1; state_left = o.state_left; output_left = o.output_left }
+raised_comes s idle el o wrote =
+    record { outcome = refl; bytes = wrote ∙ ap (λ (x : Option ℕ). unwrap_or x 0) o.returned; state_left = o.state_left ∙ el; output_left = o.output_left }
+raised_comes s (effect next message) el o wrote =
+    record { outcome = refl; bytes = wrote ∙ ap (λ (x : Option ℕ). unwrap_or x 0) o.returned; state_left = o.state_left; output_left = o.output_left }
 
 -- At own term: 13 where it did nothing.
 own_comes :
-    (s : State) (e : Effect) {d : Did} {t : Told} {l l' out out' : List ℕ} → Obeyed e l out d l' out' → t ≡ told_by d nothing_new
-    → Comes (at_own_term s e) l out t l' out'
+    (s : State) (e : Effect) {d : Option ℕ} {r : Result ℕ Refusal} {l l' out out' : List ℕ} → Obeyed e l out d l' out' → r ≡ ok_or d NothingNew
+    → Comes (at_own_term s e) l out r l' out'
 unfolding at_own_term did_by ruled_by said_by left_by written
 own_comes s idle o told =
-    let t = told_is nothing_new told o.returned in
-    record { outcome = t.0; bytes = t.1; state_left = o.state_left; output_left = o.output_left }
+    let r = told ∙ ap (λ (x : Option ℕ). ok_or x NothingNew) o.returned in
+    record { outcome = ap outcome_of r; bytes = ap bytes_of r; state_left = o.state_left; output_left = o.output_left }
 own_comes s (effect next message) o told =
-    let t = told_is nothing_new told o.returned in
-    record { outcome = t.0; bytes = t.1; state_left = o.state_left; output_left = o.output_left }
+    let r = told ∙ ap (λ (x : Option ℕ). ok_or x NothingNew) o.returned in
+    record { outcome = ap outcome_of r; bytes = ap bytes_of r; state_left = o.state_left; output_left = o.output_left }
 
 -- ---- a message that is for this hub and not stale
 
-module _ (w : Who) (h : Head) (l : List ℕ) (f : Fields) (s out : List ℕ) (d : Addressed w h l f s out) where
+module _ (w : Who) (h : Head) (l : List ℕ) (m : Heard) (out : List ℕ) (d : Addressed w h l m out) where
+  abbrev f : Fields
+  f = m.fields
+
+  abbrev s : List ℕ
+  s = m.lines.now
+
   is_ready : Ready w l
   is_ready = d.receives.ready
 
   is_legal : IsMessage (message_heard f s)
-  is_legal = message_legal w l f s out d.receives
+  is_legal = message_legal m
 
   -- The head is its state's.
   pub head_of_lem : h ≡ head_of (state_in l).kept (state_in l).lost
@@ -90,10 +88,7 @@ module _ (w : Who) (h : Head) (l : List ℕ) (f : Fields) (s out : List ℕ) (d 
 
   -- ---- of a higher term
 
-  module _ (up : ltb h.term.0 f.term.0 ≡ true) where
-    above : h.term.0 < f.term.0
-    above = ltb-true h.term.0 f.term.0 up
-
+  module _ (above : h.term.0 < f.term.0) where
     -- The hub may become a follower of it.
     pub may_raise : Raises w h f.term.0 l
     may_raise = record { ready = is_ready; head = d.head; up = omega (arith, above); last = is_legal.last }
@@ -110,7 +105,7 @@ module _ (w : Who) (h : Head) (l : List ℕ) (f : Fields) (s out : List ℕ) (d 
     risen_held e = (ready_next w l is_ready risen risen_legal e).1
 
     -- The rule may be obeyed there.
-    pub may_obey_risen : {l1 : List ℕ} → l1 ≡ image risen → Obeys w l1 f s out
+    pub may_obey_risen : {l1 : List ℕ} → l1 ≡ image risen → Obeys w l1 m out
     unfolding follower_at with_term
     may_obey_risen {l1} e =
         let is = risen_held e in
@@ -118,8 +113,6 @@ module _ (w : Who) (h : Head) (l : List ℕ) (f : Fields) (s out : List ℕ) (d 
           receives = record {
             ready = (ready_next w l is_ready risen risen_legal e).0;
             room = d.receives.room;
-            lie = d.receives.lie;
-            legal = d.receives.legal;
           };
           addressed = d.addressed;
           own_term = ap (λ (x : State). x.kept.term) (sym is);
@@ -129,31 +122,31 @@ module _ (w : Who) (h : Head) (l : List ℕ) (f : Fields) (s out : List ℕ) (d 
     -- What the message comes to is what its rule comes to there.
     higher : receive w (state_in l) (message_heard f s) ≡ after_raise risen (rule w risen f.from.0 (body_in f.body s))
     unfolding receive
-    higher = rw (d.addressed, d.fresh, ap (λ (t : ℕ). ltb t f.term.0) (sym own) ∙ up)
+    higher = rw (d.addressed, d.fresh, ap (λ (t : ℕ). ltb t f.term.0) (sym own) ∙ lt-ltb _ _ above)
 
     -- What the rule comes to there.
     pub higher_comes :
-        {l1 l' out' : List ℕ} {did : Did} {t : Told} → l1 ≡ image risen → Obeyed (rule w (state_in l1) f.from.0 (body_in f.body s)) l1 out did l' out'
-        → t ≡ told_by did done → Comes (receive w (state_in l) (message_heard f s)) l out t l' out'
+        {l1 l' out' : List ℕ} {did : Option ℕ} {n : ℕ} → l1 ≡ image risen → Obeyed (rule w (state_in l1) f.from.0 (body_in f.body s)) l1 out did l' out'
+        → n ≡ unwrap_or did 0 → Comes (receive w (state_in l) (message_heard f s)) l out (Ok n) l' out'
     higher_comes {l1} {l'} {out'} {did} e o told =
         let there = subst (λ (x : State). Obeyed (rule w x f.from.0 (body_in f.body s)) l1 out did l' out') (risen_held e) o in
         rw higher (raised_comes risen (rule w risen f.from.0 (body_in f.body s)) e there told)
 
   -- ---- of own term
 
-  module _ (low : ltb h.term.0 f.term.0 ≡ false) where
+  module _ (low : f.term.0 ≤ h.term.0) where
     not_higher : ltb (state_in l).kept.term f.term.0 ≡ false
-    not_higher = ap (λ (t : ℕ). ltb t f.term.0) (sym own) ∙ low
+    not_higher = ap (λ (t : ℕ). ltb t f.term.0) (sym own) ∙ le-ltb _ _ low
 
     -- Outcome 7.
     pub contradicting_comes : contradicts (state_in l) (body_in f.body s) ≡ true
-        → Comes (receive w (state_in l) (message_heard f s)) l out (told contradicting 0) l out
+        → Comes (receive w (state_in l) (message_heard f s)) l out (Err Contradicting) l out
     unfolding receive
-    contradicting_comes c = refused_comes (state_in l) l out contradicting (rw (d.addressed, d.fresh, not_higher, c)) (λ e. omega arith)
+    contradicting_comes c = refused_comes (state_in l) l out Contradicting (rw (d.addressed, d.fresh, not_higher, c)) (λ e. omega arith)
 
     module _ (c : contradicts (state_in l) (body_in f.body s) ≡ false) where
       -- The rule may be obeyed.
-      pub may_obey : Obeys w l f s out
+      pub may_obey : Obeys w l m out
       may_obey =
           record {
             receives = d.receives;
@@ -169,6 +162,6 @@ module _ (w : Who) (h : Head) (l : List ℕ) (f : Fields) (s out : List ℕ) (d 
 
       -- What the rule comes to.
       pub obeyed_comes :
-          {l' out' : List ℕ} {did : Did} {t : Told} → Obeyed (rule w (state_in l) f.from.0 (body_in f.body s)) l out did l' out'
-          → t ≡ told_by did nothing_new → Comes (receive w (state_in l) (message_heard f s)) l out t l' out'
+          {l' out' : List ℕ} {did : Option ℕ} {r : Result ℕ Refusal} → Obeyed (rule w (state_in l) f.from.0 (body_in f.body s)) l out did l' out'
+          → r ≡ ok_or did NothingNew → Comes (receive w (state_in l) (message_heard f s)) l out r l' out'
       obeyed_comes o told = rw at_own (own_comes (state_in l) (rule w (state_in l) f.from.0 (body_in f.body s)) o told)

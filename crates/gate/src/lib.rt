@@ -2,43 +2,45 @@
 #![tactic(auto)]
 
 ghost use Rattle.std.specs.Prelude.{◌≡◌};
-ghost use Rattle.promise.specs.Promise.{who_in};
-ghost use Rattle.promise.specs.Gate.{is_known, is_fit, gate};
+ghost use Rattle.kinds.specs.Caller.{who_in};
+ghost use Rattle.promise.specs.Gate.{is_in, is_fit, gate};
 
-use promise::Caller;
+use kinds::{Caller, Event, Refusal};
 
-// N is 3, 5 or 7, the own number in 1..N, the event one of the five.
-fn is_known(g: Caller, event: u32) -> bool
-    ensures { result ≡ is_known (who_in g) event }
+// N is 3, 5 or 7, and the own number in 1..N.
+#[tactic(auto, unfolding(promise::specs::Gate::is_in, kinds::specs::Sizes::is_size, kinds::specs::Sizes::is_hub, kinds::specs::Sizes::between))]
+fn is_in(g: Caller) -> bool
+    ensures { result ≡ is_in (who_in g) }
 {
-    let n = g.size;
-    let own = g.own.number();
-    let size = (n == 3) | ((n == 5) | (n == 7));
-    size & (((1 <= own) & (own <= n)) & ((kinds::START <= event) & (event <= kinds::RECEIVE)))
+    matches!(g.size, 3 | 5 | 7) && (1..=g.size).contains(&g.own.into())
 }
 
 // Whether the state that the event needs is legal: restart needs the kept parts alone.
-fn is_fit(g: Caller, event: u32, state: &[u8]) -> bool
+#[tactic(auto, unfolding(promise::specs::Gate::is_fit))]
+fn is_fit(g: Caller, event: Event, state: &[u8]) -> bool
     ensures { result ≡ is_fit (who_in g) event state.now }
 {
-    if event == kinds::RESTART {
-        return legal::is_kept_legal(state);
+    match event {
+        Event::Restart => legal::is_kept_legal(state),
+        _ => legal::is_legal(g, state),
     }
-    legal::is_legal(g.size, g.own, state)
 }
 
-// The refusals before every event, in the order of rule R32: 1, 2, 3; 0 if there is none.
-pub fn refusal_before(g: Caller, event: u32, state: &[u8], out: &[u8]) -> u32
+// The event that a call names, or why it is refused before every event, in the order of rule R32: 1, 2, 3.
+// (The event is a number, since C gives it (`kritnamon_step`). Here it becomes an `Event`.)
+#[tactic(auto, unfolding(promise::specs::Gate::gate, promise::specs::Gate::let_in))]
+pub fn let_in(g: Caller, event: u32, state: &[u8], out: &[u8]) -> Result<Event, Refusal>
     ensures { result ≡ gate (who_in g) event state.now out.now }
 {
-    if !is_known(g, event) {
-        return kinds::NOT_KNOWN;
+    if !is_in(g) {
+        return Err(Refusal::NotKnown);
     }
+    let event = Event::try_from(event)?;
     if !is_fit(g, event, state) {
-        return kinds::BAD_STATE;
+        return Err(Refusal::BadState);
     }
     if out.len() < kinds::text_room() {
-        return kinds::SHORT_OUTPUT;
+        return Err(Refusal::ShortOutput);
     }
-    kinds::DONE
+    Ok(event)
 }

@@ -12,7 +12,6 @@ use Rattle.kinds.specs.Role.{as_candidate}
 use Rattle.kinds.specs.Sizes.{Who, hubs_most, limit, row_size}
 use Rattle.command.specs.Entry.{Entry}
 use Rattle.message.specs.Message.{vote_yes}
-use Rattle.message.specs.Walk.{entries_from}
 use Rattle.state.specs.declared.Head.{Head}
 use Rattle.state.specs.State.{Kept, Lost, follower, candidate, leader, State}
 use Rattle.state.specs.Legal.{legal_lost, legal_state}
@@ -114,10 +113,10 @@ yes_written w k (candidate voters gathered) from ballot es role legal room =
 -- ---- the bytes
 
 -- The sender is one of seven.
-pub heard_from : {w : Who} {l s : List ℕ} {from ballot n : ℕ} → Hears w l from ballot n s → (1 ≤ from) × (from ≤ hubs_most)
+pub heard_from : {w : Who} {l : List ℕ} {from ballot : ℕ} {es : List Entry} → Hears w l from ballot es → (1 ≤ from) × (from ≤ hubs_most)
 heard_from {w} {l} hears = (hears.yes.first, omega (arith, hears.yes.within, (ready_who w l hears.yes.ready).most))
 
-module _ (w : Who) (l : List ℕ) (from ballot n : ℕ) (s : List ℕ) (hears : Hears w l from ballot n s) {h : Head} (e : h ≡ head_in l) where
+module _ (w : Who) (l : List ℕ) (from ballot : ℕ) (es : List Entry) (hears : Hears w l from ballot es) {h : Head} (e : h ≡ head_in l) where
   ready : Ready w l
   ready = hears.yes.ready
 
@@ -138,32 +137,32 @@ module _ (w : Who) (l : List ℕ) (from ballot n : ℕ) (s : List ℕ) (hears : 
   gathered_is = ap (λ (x : Head). x.gathered.0) e ∙ ready_gathered w l ready
 
   -- Another role.
-  pub heard_other : (h.role ≡ as_candidate → ⊥) → Ruled (heard_yes w (state_in l) from ballot (entries_from n s)) l false l
-  heard_other role = idle_ruled l (yes_other w (state_in l).kept from ballot (entries_from n s) (state_in l).lost (λ f. role (role_is ∙ f)))
+  pub heard_other : (h.role ≡ as_candidate → ⊥) → Ruled (heard_yes w (state_in l) from ballot es) l false l
+  heard_other role = idle_ruled l (yes_other w (state_in l).kept from ballot es (state_in l).lost (λ f. role (role_is ∙ f)))
 
   -- A voter seen before.
-  pub heard_seen : h.role ≡ as_candidate → get_or h.voters (from - 1) false ≡ true → Ruled (heard_yes w (state_in l) from ballot (entries_from n s)) l false l
+  pub heard_seen : h.role ≡ as_candidate → get_or h.voters (from - 1) false ≡ true → Ruled (heard_yes w (state_in l) from ballot es) l false l
   heard_seen role seen =
       idle_ruled l
-      (yes_seen w (state_in l).kept from ballot (entries_from n s) (state_in l).lost (sym role_is ∙ role)
+      (yes_seen w (state_in l).kept from ballot es (state_in l).lost (sym role_is ∙ role)
       (ap (λ (vs : List Bool). get_or vs (from - 1) false) (sym voters_are) ∙ seen))
 
   module _ (role : h.role ≡ as_candidate) where
     stands : role_of (state_in l).lost ≡ as_candidate
     stands = sym role_is ∙ role
 
-    room : length (state_in l).kept.log + length (entries_from n s) ≤ limit
+    room : length (state_in l).kept.log + length es ≤ limit
     room =
         let k = (state_in l).kept in
-        yes_room k (state_in l).lost hears.last ballot (entries_from n s) stands (yes_is k.term hears.last ballot (entries_from n s) hears.yes.legal)
+        yes_room k (state_in l).lost hears.last ballot es stands (yes_is k.term hears.last ballot es hears.yes.legal)
         hears.yes.agrees
 
     -- The entries have a place behind the log.
-    pub heard_room : h.length.0 + n ≤ limit
-    heard_room = omega (arith, length_is, hears.yes.lie.count_is, room)
+    pub heard_room : h.length.0 + length es ≤ limit
+    heard_room = omega (arith, length_is, room)
 
     -- The votes may be counted.
-    pub heard_counts : {f : Head} {l1 : List ℕ} → f ≡ with_voter h from (max h.gathered.0 n) → length l1 ≡ length l → Counts w f l1
+    pub heard_counts : {f : Head} {l1 : List ℕ} → f ≡ with_voter h from (max h.gathered.0 (length es)) → length l1 ≡ length l → Counts w f l1
     unfolding with_voter
     heard_counts ef same =
         let who = ready_who w l ready in
@@ -184,21 +183,21 @@ module _ (w : Who) (l : List ℕ) (from ballot n : ℕ) (s : List ℕ) (hears : 
         }
 
     written :
-        counted_into w (with_voter h from (max h.gathered.0 n)) (gathered_into l (head_size + h.length.0 * row_size) h.gathered.0 ballot (entries_from n s))
+        counted_into w (with_voter h from (max h.gathered.0 (length es))) (gathered_into l (head_size + h.length.0 * row_size) h.gathered.0 ballot es)
         ≡ image
-        (counted w (state_in l).kept (set (voters_of (state_in l).lost) (from - 1) true) (gather (gathered_of (state_in l).lost) ballot (entries_from n s)))
+        (counted w (state_in l).kept (set (voters_of (state_in l).lost) (from - 1) true) (gather (gathered_of (state_in l).lost) ballot es))
     unfolding head_of
     written =
         rw (gathered_is, length_is, all_of)
-        (rw (ready_image w l ready, hears.yes.lie.count_is) at
-        (yes_written w (state_in l).kept (state_in l).lost from ballot (entries_from n s) stands (ready_legal w l ready) room))
+        (rw (ready_image w l ready) at
+        (yes_written w (state_in l).kept (state_in l).lost from ballot es stands (ready_legal w l ready) room))
 
     -- A new voter.
     pub heard_new :
         get_or h.voters (from - 1) false ≡ false → {first : ℕ} {f : Head} {l1 l2 : List ℕ} → first ≡ head_size + h.length.0 * row_size
-        → l1 ≡ gathered_into l first h.gathered.0 ballot (entries_from n s) → f ≡ with_voter h from (max h.gathered.0 n)
-        → l2 ≡ counted_into w f l1 → Ruled (heard_yes w (state_in l) from ballot (entries_from n s)) l true l2
+        → l1 ≡ gathered_into l first h.gathered.0 ballot es → f ≡ with_voter h from (max h.gathered.0 (length es))
+        → l2 ≡ counted_into w f l1 → Ruled (heard_yes w (state_in l) from ballot es) l true l2
     heard_new new efirst e1 ef e2 =
-        let told = yes_new w (state_in l).kept from ballot (entries_from n s) (state_in l).lost stands
+        let told = yes_new w (state_in l).kept from ballot es (state_in l).lost stands
         (ap (λ (vs : List Bool). get_or vs (from - 1) false) (sym voters_are) ∙ new) in
         effect_ruled _ l _ told (rw (e2, ef, e1, efirst) written)

@@ -3,6 +3,7 @@ use Rattle.std.specs.Prelude.{ℕ, ◌+◌, ◌-◌, ◌*◌, ◌≤◌, ◌≡�
 use Rattle.std.proofs.lemmas.List.Edits.{sets}
 use Rattle.kinds.specs.Of.{place}
 use Rattle.kinds.specs.Sizes.{Who, hubs_most, majority, limit, row_size}
+use Rattle.command.specs.Entry.{Entry}
 use Rattle.state.specs.declared.Head.{Head}
 use Rattle.state.specs.Legal.{count}
 use Rattle.state.specs.Image.{head_size, state_size}
@@ -12,9 +13,9 @@ use Rattle.promise.specs.Heads.{leading}
 use Rattle.rows.specs.Words.{renumbered}
 
 -- What holds where a vote-yes is heard, with whatever last it came.
-pub record Hears (w : Who) (l : List ℕ) (from ballot count : ℕ) (s : List ℕ) : Type 0 where
+pub record Hears (w : Who) (l : List ℕ) (from ballot : ℕ) (entries : List Entry) : Type 0 where
   pub last : ℕ
-  pub yes : HearsYes w l from last ballot count s
+  pub yes : HearsYes w l from last ballot entries
 
 -- A candidate's head with one voter more, and n entries gathered.
 unfoldable pub with_voter : Head → ℕ → ℕ → Head

@@ -3,19 +3,20 @@
 
 ghost use Rattle.std.specs.Prelude.{◌≡◌, ◌≤◌, max};
 ghost use Rattle.kinds.specs.Sizes.{hubs_most};
-ghost use Rattle.message.specs.Walk.{entries_from};
 ghost use Rattle.state.specs.Image.{state_in};
 ghost use Rattle.rules.specs.Receive.{heard_yes};
-ghost use Rattle.promise.specs.Promise.{who_in, Ruled};
+ghost use Rattle.kinds.specs.Caller.{who_in};
+ghost use Rattle.promise.specs.Promise.{Ruled};
 ghost use Rattle.gather.specs.Yes.{Hears, Counts, with_voter, counted_into};
 
-use kinds::{Hub, Place, Term};
-use promise::Caller;
+use entries::Entries;
+use kinds::{Caller, Hub, Place, Term};
 use state::Head;
 
 // ---- the vote
 
 // A candidate's head with one voter more, whose count entries were gathered.
+#[tactic(auto, unfolding(crate::specs::Yes::with_voter))]
 fn add_voter(h: Head, from: Hub, count: u32) -> Head
     requires { (1 ≤ from.0) × (from.0 ≤ hubs_most) }
     ensures { result ≡ with_voter h from.0 (max h.gathered.0 count) }
@@ -23,7 +24,7 @@ fn add_voter(h: Head, from: Hub, count: u32) -> Head
     let i = state::index_of(from);
     let mut next = h;
     next.voters[i] = true;
-    next.gathered = heads::greater(h.gathered, Place::of(count));
+    next.gathered = h.gathered.max(Place::from(count));
     next
 }
 
@@ -37,28 +38,16 @@ fn count_votes(g: Caller, h: Head, state: &mut [u8])
         head::write_head(state, h);
         return;
     }
-    rows::renumber(
-        state,
-        head::row_after(h.length),
-        h.gathered.number(),
-        h.term,
-    );
+    rows::renumber(state, head::row_after(h.length), h.gathered.into(), h.term);
     head::write_head(state, heads::lead(h, g.own));
 }
 
 // ---- vote-yes
 
 // vote-yes at a candidate, from a new voter: gathered and counted. Otherwise nothing.
-pub fn hear_yes(
-    g: Caller,
-    state: &mut [u8],
-    from: Hub,
-    ballot: Term,
-    count: u32,
-    lines: &[u8],
-) -> bool
-    requires { Hears (who_in g) state.old from.0 ballot.0 count lines.now }
-    ensures { Ruled (heard_yes (who_in g) (state_in state.old) from.0 ballot.0 (entries_from count lines.now)) state.old result state.new }
+pub fn hear_yes(g: Caller, state: &mut [u8], from: Hub, ballot: Term, entries: Entries<'_>) -> bool
+    requires { Hears (who_in g) state.old from.0 ballot.0 entries }
+    ensures { Ruled (heard_yes (who_in g) (state_in state.old) from.0 ballot.0 entries.entry) state.old result state.new }
 {
     let h = head::read_head(state);
     if h.role != kinds::CANDIDATE {
@@ -68,14 +57,14 @@ pub fn hear_yes(
     if voters::has_voted(seen, from) {
         return false;
     }
+    let voted = add_voter(h, from, entries.many());
     pairs::gather_in(
         state,
         head::row_after(h.length),
         h.gathered,
         ballot,
-        count,
-        lines,
+        entries,
     );
-    count_votes(g, add_voter(h, from, count), state);
+    count_votes(g, voted, state);
     true
 }

@@ -1,15 +1,11 @@
 -- The lines with which every message begins, as the code's own fields give them. Assumes nothing.
 use Rattle.std.specs.Prelude.{ℕ, List, [], ◌∷◌, ◌++◌}
-use Rattle.text.specs.Line.{LF, line_text}
+use Rattle.text.specs.Line.{LF}
 use Rattle.message.specs.Fields.{term=, from=, to=}
 use Rattle.message.specs.Text.{type=, name, lines_text}
 use Rattle.message.specs.Answer.{type_in}
 use Rattle.message.specs.declared.Body.{Body}
 use Rattle.message.specs.declared.Fields.{Fields}
-
--- Two lines.
-abbrev pub two_lines : List ℕ → ℕ → List ℕ → ℕ → List ℕ
-two_lines key x other y = line_text key x ++ line_text other y
 
 -- The line of the type.
 unfoldable pub type_text : Body → List ℕ

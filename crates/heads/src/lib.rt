@@ -2,76 +2,67 @@
 // the lent bytes.
 #![tactic(auto)]
 
-ghost use Rattle.std.specs.Prelude.{◌≡◌, ◌+◌, ◌≤◌, ◌<◌, max};
-ghost use Rattle.kinds.specs.Of.{place};
+ghost use Rattle.std.specs.Prelude.{◌≡◌, ◌+◌, ◌≤◌, ◌<◌};
 ghost use Rattle.kinds.specs.Sizes.{hubs_most, term_most, limit};
 ghost use Rattle.promise.specs.Heads.{following, standing, leading, taking};
 
 use kinds::{Hub, Place, Term};
 use state::Head;
 
-pub fn greater(a: Place, b: Place) -> Place
-    ensures { result ≡ place (max a.0 b.0) }
-{
-    if a.below(b) {
-        return b;
-    }
-    a
-}
-
 // A follower of this term, lost parts cleared.
+#[tactic(auto, unfolding(promise::specs::Heads::following))]
 pub fn follow(h: Head, t: Term) -> Head
     ensures { result ≡ following h t }
 {
-    let nobody = [false; 7];
-    let nothing = [Place::of(0); 7];
-    let mut next = h;
-    next.term = t;
-    next.gathered = Place::of(0);
-    next.role = kinds::FOLLOWER;
-    next.voters = nobody;
-    next.confirmed = nothing;
-    next
+    Head {
+        term: t,
+        gathered: Place::from(0),
+        role: kinds::FOLLOWER,
+        voters: [false; 7],
+        confirmed: [Place::from(0); 7],
+        ..h
+    }
 }
 
 // A candidate of the next term, with itself as its voter.
+// (1 to 7 is asked here and of four more, not promised by `Hub`: C and texts give any number, and only `index_of` needs this.)
+#[tactic(auto, unfolding(promise::specs::Heads::standing, promise::specs::Heads::following))]
 pub fn stand(h: Head, own: Hub) -> Head
     requires { (1 ≤ own.0) × (own.0 ≤ hubs_most) × (h.term.0 < term_most) }
     ensures { result ≡ standing h own.0 }
 {
-    let i = state::index_of(own);
-    let mut itself = [false; 7];
-    itself[i] = true;
-    let mut next = follow(h, Term::of(h.term.number() + 1));
+    let mut next = follow(h, Term::from(u32::from(h.term) + 1));
     next.role = kinds::CANDIDATE;
-    next.voters = itself;
+    next.voters[state::index_of(own)] = true;
     next
 }
 
 // A leader whose log the gathered entries have joined: ballot = term, lost parts cleared, own confirmed length = length.
+#[tactic(auto, using(kinds::proofs::SizesLaws::limit_small), unfolding(promise::specs::Heads::leading, promise::specs::Heads::following))]
 pub fn lead(h: Head, own: Hub) -> Head
     requires { (1 ≤ own.0) × (own.0 ≤ hubs_most) × (h.length.0 + h.gathered.0 ≤ limit) }
     ensures { result ≡ leading h own.0 }
 {
-    let i = state::index_of(own);
-    let long = Place::of(h.length.number() + h.gathered.number());
-    let t = h.term;
-    let mut next = follow(h, t);
-    next.ballot = t;
-    next.length = long;
-    next.role = kinds::LEADER;
-    next.confirmed[i] = long;
+    let long = Place::from(u32::from(h.length) + u32::from(h.gathered));
+    let mut next = Head {
+        ballot: h.term,
+        length: long,
+        role: kinds::LEADER,
+        ..follow(h, h.term)
+    };
+    next.confirmed[state::index_of(own)] = long;
     next
 }
 
 // A follower that took an append: ballot = term, with this chosen count and this length.
+#[tactic(auto, unfolding(promise::specs::Heads::taking))]
 pub fn take_head(h: Head, chosen: Place, n: Place) -> Head
     ensures { result ≡ taking h chosen n }
 {
-    let t = h.term;
-    let mut next = h;
-    next.ballot = t;
-    next.chosen = chosen;
-    next.length = n;
-    next
+    Head {
+        ballot: h.term,
+        chosen,
+        length: n,
+        ..h
+    }
 }

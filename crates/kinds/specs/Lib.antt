@@ -6,3 +6,5 @@ pub mod Event
 pub mod Packed
 pub mod Hubs
 pub mod Same
+pub mod Refusal
+pub mod Caller

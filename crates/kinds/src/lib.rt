@@ -1,85 +1,78 @@
-// Hub numbers, places and terms (a ballot is a term). Their numbers are private, so that another crate
-// compares them by these methods alone, and a place with a term not at all. And the numbers that all crates share.
+// Hub numbers, places and terms (a ballot is a term). Their numbers are private, so that another crate compares each with its own kind alone, and a place
+// with a term not at all. And what all crates share: sizes, who is called, events, refusals and their numbers.
 #![tactic(auto)]
 
 ghost use Rattle.std.specs.Prelude.{◌≡◌, ◌<◌, leb, ltb, eqb};
 ghost use Rattle.kinds.specs.Of.{hub, place, term};
 ghost use Rattle.kinds.specs.Packed.{half, places_room, placed, packed};
 ghost use Rattle.kinds.specs.Sizes.{limit, text_room};
+ghost use Rattle.kinds.specs.Event.{event_with};
+ghost use Rattle.kinds.specs.Refusal.{number_of, outcome_of};
 
-#[derive(Clone, Copy)]
+// Three structs of one shape, and no generic one: document 01 asks for tuple structs with private fields (docs/FORMS.md), and Rust's traits of conversion
+// take a type each.
+#[derive(Clone, Copy, Debug, PartialEq, Eq)]
 pub struct Hub(u32);
 
-#[derive(Clone, Copy)]
+#[derive(Clone, Copy, Debug, PartialEq, Eq, PartialOrd, Ord)]
 pub struct Place(u32);
 
-#[derive(Clone, Copy)]
+#[derive(Clone, Copy, Debug, PartialEq, Eq, PartialOrd, Ord)]
 pub struct Term(u32);
 
-impl Hub {
-    pub fn of(n: u32) -> Hub
-        ensures { result ≡ hub n }
-    {
+impl From<u32> for Hub {
+    ghost from_gives = { λ n r. r ≡ hub n };
+
+    fn from(n: u32) -> Hub {
         Hub(n)
     }
+}
 
-    pub fn number(self) -> u32
-        ensures { result ≡ self.0 }
-    {
-        self.0
-    }
+impl From<Hub> for u32 {
+    ghost from_gives = { λ h n. n ≡ h.0 };
 
-    pub fn equals(self, other: Hub) -> bool
-        ensures { result ≡ eqb self.0 other.0 }
-    {
-        self.0 == other.0
+    fn from(hub: Hub) -> u32 {
+        hub.0
     }
 }
 
-impl Place {
-    pub fn of(n: u32) -> Place
-        ensures { result ≡ place n }
-    {
+impl From<u32> for Place {
+    ghost from_gives = { λ n r. r ≡ place n };
+
+    fn from(n: u32) -> Place {
         Place(n)
     }
+}
 
-    pub fn number(self) -> u32
-        ensures { result ≡ self.0 }
-    {
-        self.0
-    }
+impl From<Place> for u32 {
+    ghost from_gives = { λ p n. n ≡ p.0 };
 
-    pub fn below(self, other: Place) -> bool
-        ensures { result ≡ ltb self.0 other.0 }
-    {
-        self.0 < other.0
+    fn from(place: Place) -> u32 {
+        place.0
     }
 }
 
-impl Term {
-    pub fn of(n: u32) -> Term
-        ensures { result ≡ term n }
-    {
+impl From<u32> for Term {
+    ghost from_gives = { λ n r. r ≡ term n };
+
+    fn from(n: u32) -> Term {
         Term(n)
     }
+}
 
-    pub fn number(self) -> u32
-        ensures { result ≡ self.0 }
-    {
-        self.0
-    }
+impl From<Term> for u32 {
+    ghost from_gives = { λ t n. n ≡ t.0 };
 
-    pub fn below(self, other: Term) -> bool
-        ensures { result ≡ ltb self.0 other.0 }
-    {
-        self.0 < other.0
+    fn from(term: Term) -> u32 {
+        term.0
     }
+}
 
-    pub fn equals(self, other: Term) -> bool
-        ensures { result ≡ eqb self.0 other.0 }
-    {
-        self.0 == other.0
-    }
+// Who is called: the size of its group, and its own number. They come with every call.
+#[derive(Clone, Copy)]
+pub struct Caller {
+    pub size: u32,
+    pub own: Hub,
 }
 
 // ---- sizes
@@ -111,59 +104,86 @@ pub fn text_room() -> usize
 
 // ---- roles
 
+// Numbers, and no enum: a head says what any bytes hold (`head_in`), a byte that is no role's too, and `role_head` tests it.
 pub const FOLLOWER: u8 = 0;
 
 pub const CANDIDATE: u8 = 1;
 
 pub const LEADER: u8 = 2;
 
-// ---- events
+// ---- refusals and events
 
-pub const START: u32 = 1;
+// Why a call is refused (rule R32). Its number is its outcome.
+#[derive(Clone, Copy, Debug, PartialEq, Eq)]
+pub enum Refusal {
+    NotKnown = 1,
+    BadState = 2,
+    ShortOutput = 3,
+    BadMessage = 4,
+    NotAddressed = 5,
+    Stale = 6,
+    Contradicting = 7,
+    WrongRole = 8,
+    NoTermLeft = 9,
+    BadCommand = 10,
+    LogFull = 11,
+    OutOfRange = 12,
+    NothingNew = 13,
+    NotPlayable = 14,
+    BadCalibration = 15,
+    BadElapsed = 16,
+}
 
-pub const PROPOSE: u32 = 2;
+impl From<Refusal> for u32 {
+    ghost from_gives = { λ r n. n ≡ number_of r };
 
-pub const SEND: u32 = 3;
+    fn from(r: Refusal) -> u32 {
+        r as u32
+    }
+}
 
-pub const RESTART: u32 = 4;
-
-pub const RECEIVE: u32 = 5;
-
-// ---- outcomes (rule R32)
-
+// The outcome of what is not refused.
+// A number, since C is told it; the code's own answers say `Ok`.
 pub const DONE: u32 = 0;
 
-pub const NOT_KNOWN: u32 = 1;
+// The outcome of an answer: done, or its refusal's number.
+// (No `From`: neither `Result` nor `u32` is this crate's own, so the impl can't stand here.)
+pub fn outcome_of<T: Drop>(answer: Result<T, Refusal>) -> u32
+    ensures { result ≡ outcome_of answer }
+{
+    match answer {
+        Ok(_) => DONE,
+        Err(r) => r.into(),
+    }
+}
 
-pub const BAD_STATE: u32 = 2;
+// What happens at a hub (rules R17 to R21). C gives its number.
+#[derive(Clone, Copy, Debug, PartialEq, Eq)]
+pub enum Event {
+    Start,
+    Propose,
+    Send,
+    Restart,
+    Receive,
+}
 
-pub const SHORT_OUTPUT: u32 = 3;
+impl TryFrom<u32> for Event {
+    type Error = Refusal;
 
-pub const BAD_MESSAGE: u32 = 4;
+    ghost try_from_gives = { λ n r. r ≡ event_with n };
 
-pub const NOT_ADDRESSED: u32 = 5;
-
-pub const STALE: u32 = 6;
-
-pub const CONTRADICTING: u32 = 7;
-
-pub const WRONG_ROLE: u32 = 8;
-
-pub const NO_TERM_LEFT: u32 = 9;
-
-pub const BAD_COMMAND: u32 = 10;
-
-pub const LOG_FULL: u32 = 11;
-
-pub const OUT_OF_RANGE: u32 = 12;
-
-pub const NOTHING_NEW: u32 = 13;
-
-pub const NOT_PLAYABLE: u32 = 14;
-
-pub const BAD_CALIBRATION: u32 = 15;
-
-pub const BAD_ELAPSED: u32 = 16;
+    #[tactic(auto, unfolding(crate::specs::Event::event_with))]
+    fn try_from(n: u32) -> Result<Event, Refusal> {
+        match n {
+            1 => Ok(Event::Start),
+            2 => Ok(Event::Propose),
+            3 => Ok(Event::Send),
+            4 => Ok(Event::Restart),
+            5 => Ok(Event::Receive),
+            _ => Err(Refusal::NotKnown),
+        }
+    }
+}
 
 // ---- an outcome and what goes with it, in one number
 
@@ -172,18 +192,19 @@ const HALF: u64 = 4_294_967_296;
 // The place of a wrong byte is counted in these, in the lower half.
 const EIGHT_BITS: u64 = 256;
 
-// An outcome, and in the upper half how many bytes or places go with it.
+// For C, which has numbers: an outcome, and in the upper half how many bytes or places go with it.
+// (`placed` is like it but for the factor and the limit, and each has its own definition: a generic one would take both, and be no shorter.)
 pub fn packed(outcome: u32, many: usize) -> u64
     requires { many < half }
     ensures { result ≡ packed outcome many }
 {
-    (outcome as u64) + (many as u64) * HALF
+    u64::from(outcome) + many as u64 * HALF
 }
 
-// An outcome, and in the lower half above it the place of the first wrong byte.
+// For C: an outcome, and in the lower half above it the place of the first wrong byte.
 pub fn placed(outcome: u32, place: usize) -> u64
     requires { place < places_room }
     ensures { result ≡ placed outcome place }
 {
-    (outcome as u64) + (place as u64) * EIGHT_BITS
+    u64::from(outcome) + place as u64 * EIGHT_BITS
 }

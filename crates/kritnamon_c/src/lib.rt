@@ -1,4 +1,5 @@
-// What C links: the functions of `kritnamon`, exported under their names. A crate is a library or a static library; this is the static one.
+// What C links: the functions of `kritnamon`, exported under their names. A crate is a library or a static library, so the C interface needs the pair: this is
+// the static one.
 #![tactic(auto)]
 
 ghost use Rattle.std.specs.Prelude.{◌≡◌};

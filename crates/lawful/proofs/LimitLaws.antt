@@ -1,20 +1,21 @@
--- A command is legal by limits that its kind sets, so that no test has to tell one kind from another. Assumes nothing.
-use Prim.Native.Nat.{ℕ, zero, suc, ◌+◌, ◌*◌, ◌/◌, ◌≤◌, ◌<◌}
+-- A command is legal by the limits of its kind, and 16 bytes by the numbers in them. Assumes nothing.
+use Prim.Native.Nat.{ℕ, zero, suc}
 use native.Mathlib.Omega.{arith}
-use native.Mathlib.Nat.{add_assoc}
 use mathlib.Core.Path.{◌≡◌, refl, sym, ◌∙◌, ap}
-use mathlib.Core.Bool.{Bool, true, false, ◌&&◌, ◌||◌}
+use mathlib.Core.Bool.{Bool, true, false, ◌&&◌, ◌||◌, and_assoc}
 use mathlib.Core.List.{List}
 use lib.Dec.{leb, eqb}
-use lib.ListN.{length, get_or}
-use borrow.Author.Tests.{ne_eqb, le-leb, lt-leb}
-use Rattle.command.specs.Command.{legal_command, command_size, command_of}
-use Rattle.command.specs.Words.{part, word_at, signed}
-use Rattle.command.proofs.WordsLaws.{word_at_two}
+use lib.ListN.{length}
+use borrow.Author.Tests.{eqb-true, ne_eqb, le-leb, lt-leb}
+use Rattle.std.specs.Prelude.{Option, None, Some, MatchOption}
+use Rattle.command.specs.Command.{Command, legal_command, command_size, command_of}
+use Rattle.command.specs.Words.{part, signed}
 use Rattle.command.specs.Answers.{command_with, of_numbers, numbers_at}
 use Rattle.command.specs.declared.Numbers.{Numbers}
-use Rattle.command.proofs.AnswersLaws.{legal_numbers, of_numbers_at}
-use Rattle.lawful.specs.Limits.{kind_limits}
+use Rattle.command.proofs.Tests.{by_test}
+use Rattle.command.proofs.AnswersLaws.{legal_numbers, of_numbers_at, of_numbers_whole}
+use Rattle.lawful.specs.declared.Limits.{Limits}
+use Rattle.lawful.specs.Limits.{limits_of, numbers_of}
 
 and_none : (t : Bool) → t && false ≡ false
 and_none true = refl
@@ -28,78 +29,58 @@ at_most_none : (n : ℕ) → leb n 0 ≡ eqb n 0
 at_most_none zero = refl
 at_most_none (suc n) = lt-leb (suc n) 0 (omega arith) ∙ sym (ne_eqb (suc n) 0 (λ e. omega arith))
 
-module _ (motor x a b : ℕ) where
-  -- A kind above 2 is none.
-  pub legal_kindless : (kind : ℕ) → 2 < kind → legal_command (command_with motor kind (signed x) a b) ≡ false
-  legal_kindless kind h =
-      legal_numbers motor kind x a b
-      ∙ rw (ne_eqb kind 0 (λ e. omega arith), ne_eqb kind 1 (λ e. omega arith), ne_eqb kind 2 (λ e. omega arith)) (and_none (leb 1 motor && leb motor 64))
+-- ---- a command's numbers
 
-  -- The tests with these limits: of one number or none, of two or none.
-  abbrev limited : ℕ → ℕ → Bool
-  limited one two = (leb 1 motor && leb motor 64) && ((leb one x && leb x (one * 600_000)) && (leb a (one * 0x3f80_0000) && leb b (two * 0x3f80_0000)))
+module _ (motor x a b : ℕ) where
+  -- The tests with these limits.
+  abbrev pub within : Limits → Bool
+  within l = (leb 1 motor && leb motor 64) && ((leb l.least x && leb x l.most) && (leb a l.a_most && leb b l.b_most))
+
+  -- And with those of a number that may be no kind.
+  abbrev pub allowed : Option Limits → Bool
+  allowed None = false
+  allowed (Some l) = within l
 
   -- Each kind by its limits.
-  pub legal_limits : (kind : ℕ) → kind ≤ 2 → limited ((kind + 1) / 2) (kind / 2) ≡ legal_command (command_with motor kind (signed x) a b)
-  legal_limits zero h =
+  pub legal_limits : (kind : ℕ) → allowed (limits_of kind) ≡ legal_command (command_with motor kind (signed x) a b)
+  unfolding limits_of
+  legal_limits zero =
       sym (legal_numbers motor 0 x a b ∙ rw (or_none (eqb x 0 && (eqb a 0 && eqb b 0)), le-leb 0 x (omega arith), at_most_none x, at_most_none a, at_most_none b))
-  legal_limits (suc zero) h =
+  legal_limits (suc zero) =
       sym
       (legal_numbers motor 1 x a b
       ∙ rw (or_none ((leb 1 x && leb x 600_000) && (leb a 0x3f80_0000 && eqb b 0)), sym (at_most_none b)))
-  legal_limits (suc (suc zero)) h = sym (legal_numbers motor 2 x a b)
-  legal_limits (suc (suc (suc k))) h = absurd (omega arith)
+  legal_limits (suc (suc zero)) = sym (legal_numbers motor 2 x a b)
+  legal_limits (suc (suc (suc k))) =
+      let kind = suc (suc (suc k)) in
+      sym
+      (legal_numbers motor kind x a b
+      ∙ rw (ne_eqb kind 0 (λ e. omega arith), ne_eqb kind 1 (λ e. omega arith), ne_eqb kind 2 (λ e. omega arith)) (and_none (leb 1 motor && leb motor 64)))
 
-  -- The tests with the limits that stand at a place of a list.
-  unfoldable pub within : List ℕ → ℕ → Bool
-  within l k =
-      (leb 1 motor && leb motor 64)
-      && ((leb (get_or l k 0) x && leb x (get_or l (k + 1) 0)) && (leb a (get_or l (k + 2) 0) && leb b (get_or l (k + 3) 0)))
+-- A kind that is none.
+pub legal_kindless : (n : Numbers) → limits_of n.kind ≡ None → false ≡ legal_command (of_numbers n)
+unfolding of_numbers
+legal_kindless n e = rw e at (legal_limits n.motor n.duration n.a n.b n.kind)
 
-  -- Each kind by its four numbers of the list.
-  pub legal_within : (l : List ℕ) (kind : ℕ) → l ≡ kind_limits → kind ≤ 2 → within l (kind * 4) ≡ legal_command (command_with motor kind (signed x) a b)
-  unfolding within kind_limits
-  legal_within l zero e h = rw e (legal_limits 0 h)
-  legal_within l (suc zero) e h = rw e (legal_limits 1 h)
-  legal_within l (suc (suc zero)) e h = rw e (legal_limits 2 h)
-  legal_within l (suc (suc (suc k))) e h = absurd (omega arith)
+-- A kind with these limits, as the code tests it.
+pub legal_within : (n : Numbers) {l : Limits} → limits_of n.kind ≡ Some l →
+    (((leb 1 n.motor && leb n.motor 64) && (leb l.least n.duration && leb n.duration l.most)) && (leb n.a l.a_most && leb n.b l.b_most))
+    ≡ legal_command (of_numbers n)
+unfolding of_numbers
+legal_within n e = simp and_assoc (simp and_assoc at (rw e at (legal_limits n.motor n.duration n.a n.b n.kind)))
 
 -- ---- bytes
-
--- A motor above 64 is none.
-legal_motorless : (motor kind x a b : ℕ) → 64 < motor → legal_command (command_with motor kind (signed x) a b) ≡ false
-legal_motorless motor kind x a b h = legal_numbers motor kind x a b ∙ rw (lt-leb motor 64 h, and_none (leb 1 motor))
-
--- A motor or a kind of two bytes, the first of which has to be zero.
-legal_low : (hm m hk k x a b : ℕ) →
-    ((eqb hm 0 && eqb hk 0) && legal_command (command_with m k (signed x) a b))
-    ≡ legal_command (command_with (hm * 256 + m) (hk * 256 + k) (signed x) a b)
-legal_low zero m zero k x a b =
-    let p : 0 * 256 + m ≡ m = omega arith in
-    let q : 0 * 256 + k ≡ k = omega arith in
-    rw (p, q)
-legal_low zero m (suc h) k x a b =
-    rw (ne_eqb (suc h) 0 (λ e. omega arith)) (sym (legal_kindless (0 * 256 + m) x a b (suc h * 256 + k) (omega arith)))
-legal_low (suc h) m hk k x a b =
-    rw (ne_eqb (suc h) 0 (λ e. omega arith)) (sym (legal_motorless (suc h * 256 + m) (hk * 256 + k) x a b (omega arith)))
 
 -- The command of 16 bytes is legal by the numbers there.
 pub legal_there : (at : ℕ) (l : List ℕ) {n : Numbers} {r : Bool} → n ≡ numbers_at at l → r ≡ legal_command (of_numbers n) →
     r ≡ legal_command (command_of (part at command_size l))
 legal_there at l en er = er ∙ ap legal_command (ap of_numbers en ∙ of_numbers_at at l)
 
--- And by the second bytes of motor and kind, where the first are zero.
-pub legal_bytes : (at : ℕ) (l : List ℕ) {m k d a b : ℕ} {r : Bool} →
-    at + command_size ≤ length l →
-    m ≡ get_or l (at + 1) 0 →
-    k ≡ get_or l (at + 3) 0 →
-    d ≡ word_at (at + 4) 4 l →
-    a ≡ word_at (at + 8) 4 l →
-    b ≡ word_at (at + 12) 4 l →
-    r ≡ legal_command (command_with m k (signed d) a b) →
-    ((eqb (get_or l at 0) 0 && eqb (get_or l (at + 2) 0) 0) && r) ≡ legal_command (command_of (part at command_size l))
-unfolding of_numbers numbers_at
-legal_bytes at l room em ek ed ea eb er =
-    let motor = word_at_two at l (omega arith) in
-    let kind : word_at (at + 2) 2 l ≡ get_or l (at + 2) 0 * 256 + get_or l (at + 3) 0 = rw add_assoc at (word_at_two (at + 2) l (omega arith)) in
-    rw (er, em, ek, ed, ea, eb, legal_low, ← motor, ← kind) (ap legal_command (of_numbers_at at l))
+-- A test of a command, asked of the numbers of bytes, if there are 16.
+pub told : (test : Command → Bool) (l : List ℕ) {o : Option Numbers} {r : Bool} → o ≡ numbers_of l →
+    MatchOption o (r ≡ false) (λ n. r ≡ test (of_numbers n)) → r ≡ (eqb (length l) command_size && test (command_of l))
+unfolding numbers_of
+told test l e m =
+    by_test (eqb (length l) command_size)
+    (λ h. rw h (rw (e, h) at m ∙ ap test (of_numbers_whole l (eqb-true (length l) command_size h))))
+    (λ h. rw h (rw (e, h) at m))

@@ -7,33 +7,78 @@ ghost use Rattle.command.specs.Words.{part};
 ghost use Rattle.command.specs.Command.{legal_command, command_size, command_of};
 ghost use Rattle.command.specs.Answers.{of_numbers, numbers_at, is_command};
 ghost use Rattle.command.specs.Proposal.{proposable, is_proposal};
-ghost use Rattle.lawful.specs.Limits.{kind_limits};
+ghost use Rattle.lawful.specs.Limits.{limits_of, numbers_of};
 
-use command::Numbers;
+use command::{GAIN_MOST, Numbers};
 
+// The last motor.
+const MOTOR_MOST: u32 = 64;
 // The shortest duration of a buzz or ramp, in ms.
 const DURATION_LEAST: u32 = 1;
 // The longest duration, in ms.
 const DURATION_MOST: u32 = 600_000;
 // The shortest buzz or ramp that can be felt, in ms.
 const FELT_LEAST: u32 = 20;
-// The kind of a stop.
+
+// The kinds of a command.
+// (Numbers, and no enum: a command's bytes may have any number there (`Numbers`), and `limits_of` speaks of all of them.)
 const STOP: u32 = 0;
 
+const BUZZ: u32 = 1;
+
+const RAMP: u32 = 2;
+
+// What a kind allows: durations from the least to the most, and a and b up to the most.
+#[derive(Clone, Copy)]
+struct Limits {
+    least: u32,
+    most: u32,
+    a_most: u32,
+    b_most: u32,
+}
+
+// The limits of a kind, if the number is one's.
+// (By the number: the definition `limits_of` has a number that is no kind's too.)
+#[tactic(auto, unfolding(crate::specs::Limits::limits_of))]
+fn limits_of(kind: u32) -> Option<Limits>
+    ensures { result ≡ limits_of kind }
+{
+    match kind {
+        STOP => Some(Limits {
+            least: 0,
+            most: 0,
+            a_most: 0,
+            b_most: 0,
+        }),
+        BUZZ => Some(Limits {
+            least: DURATION_LEAST,
+            most: DURATION_MOST,
+            a_most: GAIN_MOST,
+            b_most: 0,
+        }),
+        RAMP => Some(Limits {
+            least: DURATION_LEAST,
+            most: DURATION_MOST,
+            a_most: GAIN_MOST,
+            b_most: GAIN_MOST,
+        }),
+        _ => None,
+    }
+}
+
 // Whether the command of these numbers is legal.
+#[tactic(auto, using(crate::proofs::LimitLaws::legal_kindless, crate::proofs::LimitLaws::legal_within))]
 pub fn is_legal(n: Numbers) -> bool
     ensures { result ≡ legal_command (of_numbers n) }
 {
-    if 2 < n.kind {
+    let Some(limits) = limits_of(n.kind) else {
         return false;
-    }
-    // The limits by kind: a stop has no duration and no gains, a buzz has no second gain. So no branch tells one kind from another, which a chip could not foretell.
-    let one = (n.kind + 1) / 2;
-    let two = n.kind / 2;
-    let motor = (1 <= n.motor) & (n.motor <= 64);
-    let duration = (one <= n.duration) & (n.duration <= one * DURATION_MOST);
-    let gains = (n.a <= one * command::GAIN_MOST) & (n.b <= two * command::GAIN_MOST);
-    motor & (duration & gains)
+    };
+    let motor = (1 <= n.motor) & (n.motor <= MOTOR_MOST);
+    let duration = (limits.least <= n.duration) & (n.duration <= limits.most);
+    let gains = (n.a <= limits.a_most) & (n.b <= limits.b_most);
+    // The limits are a table to the compiler: no branch tells one kind from another, which a chip could not foretell.
+    motor & duration & gains
 }
 
 // Whether the command of these numbers may be proposed (rule R43): it is legal, and a stop or long enough to feel.
@@ -44,6 +89,7 @@ fn may_propose(n: Numbers) -> bool
 }
 
 // The numbers of the 16 bytes from a place on.
+// (A place and its room, not an array of 16: the definition `numbers_at` speaks of a place in a list.)
 pub fn numbers_at(s: &[u8], at: usize) -> Numbers
     requires { at + command_size ≤ length s.now }
     ensures { result ≡ numbers_at at s.now }
@@ -57,78 +103,38 @@ pub fn numbers_at(s: &[u8], at: usize) -> Numbers
     }
 }
 
+// Whether the 16 bytes from a place on are a legal command.
+#[tactic(auto, using(crate::proofs::LimitLaws::legal_there))]
+pub fn is_legal_at(s: &[u8], at: usize) -> bool
+    requires { at + command_size ≤ length s.now }
+    ensures { result ≡ legal_command (command_of (part at command_size s.now)) }
+{
+    is_legal(numbers_at(s, at))
+}
+
+// The numbers of a command's bytes, if they are as many as it has.
+#[tactic(auto, unfolding(crate::specs::Limits::numbers_of))]
+fn numbers_of(bytes: &[u8]) -> Option<Numbers>
+    ensures { result ≡ numbers_of bytes.now }
+{
+    if bytes.len() == command::SIZE {
+        Some(numbers_at(bytes, 0))
+    } else {
+        None
+    }
+}
+
 // Whether these bytes are a legal command: 16 of them, and legal.
 pub fn is_command(bytes: &[u8]) -> bool
     ensures { result ≡ is_command bytes.now }
 {
-    if bytes.len() != command::SIZE {
-        return false;
-    }
-    is_legal(numbers_at(bytes, 0))
+    numbers_of(bytes).is_some_and(is_legal)
 }
 
 // Whether these bytes may be proposed: 16 of them, and such a command's.
+// (Like `is_command` but for the test: a generic one would take that as a closure, and be no shorter.)
 pub fn is_proposal(bytes: &[u8]) -> bool
     ensures { result ≡ is_proposal bytes.now }
 {
-    if bytes.len() != command::SIZE {
-        return false;
-    }
-    may_propose(numbers_at(bytes, 0))
-}
-
-// ---- many of them
-
-// The limits of each kind: the least and the most duration, the most a, the most b.
-pub fn limits() -> [u32; 12]
-    ensures { result ≡ kind_limits }
-{
-    [
-        0,
-        0,
-        0,
-        0,
-        DURATION_LEAST,
-        DURATION_MOST,
-        command::GAIN_MOST,
-        0,
-        DURATION_LEAST,
-        DURATION_MOST,
-        command::GAIN_MOST,
-        command::GAIN_MOST,
-    ]
-}
-
-// Whether the command of these numbers is legal, with the limits lent.
-fn is_within(limits: &[u32; 12], n: Numbers) -> bool
-    requires { limits.now ≡ kind_limits }
-    ensures { result ≡ legal_command (of_numbers n) }
-{
-    if 2 < n.kind {
-        return false;
-    }
-    let k = (n.kind as usize) * 4;
-    let duration = (limits[k] <= n.duration) & (n.duration <= limits[k + 1]);
-    let gains = (n.a <= limits[k + 2]) & (n.b <= limits[k + 3]);
-    ((1 <= n.motor) & (n.motor <= 64)) & (duration & gains)
-}
-
-// Whether the 16 bytes from a place on are a legal command, with the limits lent. The first bytes of a legal motor and kind are zero: so the second ones are
-// the numbers, and are not joined.
-pub fn is_legal_in(limits: &[u32; 12], s: &[u8], at: usize) -> bool
-    requires { (limits.now ≡ kind_limits) × (at + command_size ≤ length s.now) }
-    ensures { result ≡ legal_command (command_of (part at command_size s.now)) }
-{
-    let small = (s[at] == 0) & (s[at + 2] == 0);
-    small
-        & is_within(
-            limits,
-            Numbers {
-                motor: words::wide(s[at + 1]),
-                kind: words::wide(s[at + 3]),
-                duration: words::get32(s, at + 4),
-                a: words::get32(s, at + 8),
-                b: words::get32(s, at + 12),
-            },
-        )
+    numbers_of(bytes).is_some_and(may_propose)
 }

@@ -1,4 +1,4 @@
--- The check, as the code's tests give it: each scan stops, goes on or has come to its end, and the table's tests in their order.
+-- The check, as the code's tests give it: rows, zeros in four quarters, and that a legal head leaves room for its rows.
 -- Over plain variables, so that a function's proof only names a law. Assumes nothing.
 use Prim.Native.Nat.{ℕ, zero, suc, ◌+◌, ◌-◌, ◌*◌, ◌≤◌, ◌<◌}
 use native.Mathlib.Omega.{arith}
@@ -11,6 +11,7 @@ use lib.Dec.{eqb, leb, ltb}
 use lib.ListN.{length, drop, get_or, length-drop}
 use lib.Seq.{take_all}
 use Rattle.kinds.specs.Sizes.{Who, between, hubs_most, limit, row_size}
+use Rattle.kinds.proofs.SizesLaws.{limit_small}
 use Rattle.command.specs.Words.{part}
 use Rattle.command.specs.Command.{legal_command}
 use Rattle.rows.specs.Rows.{row_of, legal_rows, rows_in}
@@ -23,15 +24,15 @@ use Rattle.state.specs.Legal.{all, legal_pair}
 use Rattle.state.specs.Image.{head_size, state_size, pair_of}
 use Rattle.state.specs.Table.{pair_row}
 use Rattle.state.specs.Head.{head_in, is_flag, is_none, kept_head, voters_in, confirmed_in, follower_head, candidate_head, leader_head, role_head}
-use Rattle.state.specs.Check.{legal_log, legal_gathered, zeros, checked_head, checked_table, Room}
-use Rattle.kinds.proofs.BoolLaws.{and_first, and_fails, and_alone, each_holds, same_test}
+use Rattle.state.specs.Check.{legal_log, legal_gathered, zeros, checked_head, Room}
+use Rattle.kinds.proofs.BoolLaws.{and_first, and_alone, each_holds, same_test}
 
 -- ---- rows
 
 -- The log's rows are rows that rise, from 1 to the ballot.
-pub log_rows : (ballot n : ℕ) (l : List ℕ) {b m : ℕ} → b ≡ ballot → m ≡ n → legal_rows true 1 b (rows_in row_of m l) ≡ legal_log 1 ballot n l
+pub log_rows : (ballot n : ℕ) (l : List ℕ) → legal_rows true 1 ballot (rows_in row_of n l) ≡ legal_log 1 ballot n l
 unfolding legal_log
-log_rows ballot n l e f = rw (e, f) (entries_held 1 ballot n l)
+log_rows ballot n l = entries_held 1 ballot n l
 
 -- Three tests.
 and_then : (a b c : Bool) → (a && (b && c)) ≡ ((a && b) && c)
@@ -57,11 +58,9 @@ pairs_rows term [] = refl
 pairs_rows term (g ∷ gs) = rw (pairs_rows term gs) (pair_row_lem term g.ballot (legal_command g.command) (all (legal_pair term) gs))
 
 -- Gathered rows are rows from 1 to the number before the term.
-pub gathered_rows : (term n : ℕ) (l : List ℕ) {t b m : ℕ} → t ≡ term → b ≡ t - 1 → m ≡ n →
-    legal_rows false 1 b (rows_in row_of m l) ≡ legal_gathered term n l
+pub gathered_rows : (term n : ℕ) (l : List ℕ) → legal_rows false 1 (term - 1) (rows_in row_of n l) ≡ legal_gathered term n l
 unfolding legal_gathered
-gathered_rows term n l e f g =
-    rw (f, e, g) (ap (legal_rows false 1 (term - 1)) (sym (rows_in_map pair_of pair_row n l)) ∙ pairs_rows term (rows_in pair_of n l))
+gathered_rows term n l = ap (legal_rows false 1 (term - 1)) (sym (rows_in_map pair_of pair_row n l)) ∙ pairs_rows term (rows_in pair_of n l)
 
 -- ---- zeros
 
@@ -144,28 +143,6 @@ module _ (l : List ℕ) (at : ℕ) where
 
 -- ---- the table
 
--- The tests in their order, with the head as it was read.
-module _ (l : List ℕ) (h : Head) (read : h ≡ head_in l) (log : Bool) (log_is : log ≡ legal_log 1 h.ballot.0 h.length.0 (drop head_size l)) where
-  -- The log is not legal.
-  pub table_log : log ≡ false → checked_table l ≡ false
-  unfolding checked_table
-  table_log e = rw (← read) (and_fails _ (sym log_is ∙ e))
-
-  module _ (gathered : Bool) (second : ℕ) (second_is : second ≡ head_size + h.length.0 * row_size)
-      (gathered_is : gathered ≡ legal_gathered h.term.0 h.gathered.0 (drop second l)) where
-    gathered_here : gathered ≡ legal_gathered h.term.0 h.gathered.0 (drop (head_size + h.length.0 * row_size) l)
-    gathered_here = rw second_is at gathered_is
-
-    -- The gathered rows are not.
-    pub table_gathered : log ≡ true → gathered ≡ false → checked_table l ≡ false
-    unfolding checked_table
-    table_gathered e f = rw (← read, ← log_is, e, ← gathered_here, f)
-
-    -- Both are: the unused bytes decide.
-    pub table_zeros : log ≡ true → gathered ≡ true → checked_table l ≡ zeros (drop (head_size + (h.length.0 + h.gathered.0) * row_size) l)
-    unfolding checked_table
-    table_zeros e f = rw (← read, ← log_is, e, ← gathered_here, f)
-
 -- The rows behind the first ones are all that is left of the bytes.
 pub rest_zeros : (l : List ℕ) (n from most : ℕ) → from ≡ head_size + n * row_size → most ≡ limit → length l ≡ state_size → n ≤ limit →
     zeros (part from ((most - n) * row_size) l) ≡ zeros (drop (head_size + n * row_size) l)
@@ -181,6 +158,9 @@ rows_fit l h read r = rw read r.fits
 pub table_there : (l : List ℕ) (h : Head) → h ≡ head_in l → Room l → head_size + (h.length.0 + h.gathered.0) * row_size ≤ length l
 unfolding state_size
 table_there l h read r = omega (arith, rows_fit l h read r, r.long)
+
+-- What the table's tests need of its rows.
+pub ruleset rooms = (table_there, rows_fit, limit_small)
 
 -- ---- the head
 

@@ -2,38 +2,49 @@
 use Prim.Native.Nat.{ℕ}
 use mathlib.Core.List.{List}
 use mathlib.Core.Path.{◌≡◌, subst}
+use lib.ListN.{drop}
+use Rattle.std.specs.Prelude.{Option, Some, None, Result, Ok, Err}
 use Rattle.text.specs.Found.{Found}
 use Rattle.text.specs.Reader.{Got, lost}
 use Rattle.message.specs.Answer.{opening_of}
 use Rattle.message.specs.Fields.{MessageType}
 use Rattle.message.specs.Opening.{opening}
-use Rattle.message.specs.declared.Fields.{Fields}
 use Rattle.begins.specs.Entries.{seek_opening}
 use Rattle.seek.specs.Spotted.{Missed}
-use Rattle.lines.specs.Found.{FoundKind, FoundFields}
+use Rattle.seek.specs.declared.Wrong.{Wrong}
+use Rattle.lines.specs.Found.{all_lines, all_sought, FoundFields, FoundKind, FoundLines}
 use Rattle.fields.specs.Table.{type_is}
-use Rattle.lines.specs.declared.FieldsAt.{FieldsAt}
-use Rattle.lines.specs.declared.FieldsAt.TheVariants.{Are as FieldsAt-as-Are, Wrong as FieldsAt-as-Wrong}
 use Rattle.fields.specs.declared.Kind.{Kind}
-use Rattle.lines.specs.declared.KindAt.{KindAt}
-use Rattle.lines.specs.declared.KindAt.TheVariants.{Is as KindAt-as-Is, Bad as KindAt-as-Bad}
+use Rattle.lines.specs.declared.Lines.{Lines}
+use Rattle.lines.specs.declared.Opening.{Opening}
+use Rattle.lines.specs.declared.TypeLine.{TypeLine}
 
 -- A type.
-module _ (s : List ℕ) (g : Got MessageType) (r : KindAt) (found : FoundKind s g r) where
+module _ (s : List ℕ) (g : Got MessageType) (r : Option TypeLine) (found : FoundKind s g r) where
   -- It was found.
-  pub kind_is : (k : Kind) (n : ℕ) → r ≡ KindAt-as-Is k n → Found s g (type_is k) n
-  kind_is k n e = subst (λ (x : KindAt). FoundKind s g x) e found
+  pub kind_is : {l : TypeLine} → r ≡ Some l → Found s g (type_is l.kind) l.next
+  kind_is e = subst (λ (x : Option TypeLine). FoundKind s g x) e found
 
   -- There is none.
-  pub kind_bad : r ≡ KindAt-as-Bad → g ≡ lost
-  kind_bad e = subst (λ (x : KindAt). FoundKind s g x) e found
+  pub kind_bad : r ≡ None → g ≡ lost
+  kind_bad e = subst (λ (x : Option TypeLine). FoundKind s g x) e found
 
--- All fields.
-module _ (s : List ℕ) (r : FieldsAt) (found : FoundFields s r) where
+-- The lines of its fields.
+module _ (s : List ℕ) (at : ℕ) (k : Kind) (r : Result Lines Wrong) (found : FoundLines s at k r) where
   -- They were found.
-  pub fields_are : (f : Fields) (n : ℕ) → r ≡ FieldsAt-as-Are f n → Found s (opening s) (opening_of f) n
-  fields_are f n e = subst (λ (x : FieldsAt). FoundFields s x) e found
+  pub lines_are : {l : Lines} → r ≡ Ok l → Found s (all_lines k (drop at s)) l.numbers l.next
+  lines_are e = subst (λ (x : Result Lines Wrong). FoundLines s at k x) e found
 
   -- A line is none.
-  pub fields_missed : (p : ℕ) → r ≡ FieldsAt-as-Wrong p → Missed s (opening s) (seek_opening s) p
-  fields_missed p e = subst (λ (x : FieldsAt). FoundFields s x) e found
+  pub lines_missed : {w : Wrong} → r ≡ Err w → Missed s (all_lines k (drop at s)) (all_sought k (drop at s)) w.place
+  lines_missed e = subst (λ (x : Result Lines Wrong). FoundLines s at k x) e found
+
+-- All fields.
+module _ (s : List ℕ) (r : Result Opening Wrong) (found : FoundFields s r) where
+  -- They were found.
+  pub fields_are : {o : Opening} → r ≡ Ok o → Found s (opening s) (opening_of o.fields) o.next
+  fields_are e = subst (λ (x : Result Opening Wrong). FoundFields s x) e found
+
+  -- A line is none.
+  pub fields_missed : {w : Wrong} → r ≡ Err w → Missed s (opening s) (seek_opening s) w.place
+  fields_missed e = subst (λ (x : Result Opening Wrong). FoundFields s x) e found

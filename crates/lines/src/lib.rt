@@ -1,179 +1,128 @@
 // The lines of a message before its entries, read from a lent text: one loop reads those of every type, by the table of fields.
 #![tactic(auto)]
 
-ghost use Rattle.std.specs.Prelude.{◌≤◌, length, drop};
-ghost use Rattle.message.specs.Text.{key, type_among, types};
+ghost use Rattle.std.specs.Prelude.{◌≡◌, ◌≤◌, ◌++◌, length, drop};
+ghost use Rattle.message.specs.Text.{key, name, type_among, types};
 ghost use Rattle.message.specs.Opening.{type_line};
-ghost use Rattle.fields.specs.Table.{field_is};
-ghost use Rattle.begins.specs.Digits.{seek_number};
+ghost use Rattle.fields.specs.Table.{type_is, field_is};
 ghost use Rattle.begins.specs.Lines.{seek_line};
 ghost use Rattle.lines.specs.Found.{FoundKind, FoundFields, FoundLines};
-ghost use Rattle.seek.specs.Spotted.{Ends, ReadNumber};
+ghost use Rattle.seek.specs.Spotted.{ReadNumber};
+ghost use Rattle.text.specs.Line.{LF};
 ghost use Rattle.text.specs.Range.{line_in};
 
 use fields::{Field, Kind};
 use message::Fields;
-use seek::{NumberAt, TextAt};
-use text::{Next, Number};
+use seek::Wrong;
+use text::{Bounds, Number};
+
+// The types, in the order of rule R28.
+static KINDS: [Kind; 6] = [
+    Kind::VoteRequest,
+    Kind::VoteYes,
+    Kind::VoteNo,
+    Kind::Append,
+    Kind::AppendYes,
+    Kind::AppendNo,
+];
 
 // A type, and the place past its line.
-#[derive(Clone, Copy)]
-pub enum KindAt {
-    Is { kind: Kind, next: usize },
-    Bad,
+#[derive(Clone, Copy, Debug, PartialEq, Eq)]
+struct TypeLine {
+    kind: Kind,
+    next: usize,
 }
 
-// Whether the lines of a type's fields are all there: then their numbers, each in the slot of its field, and the place past them; else the place of the
-// first wrong byte.
-#[derive(Clone, Copy)]
+// The numbers of a type's fields, each in the slot of its field, and the place past their lines.
+#[derive(Clone, Copy, Debug, PartialEq, Eq)]
 struct Lines {
-    all: bool,
     numbers: [u32; 7],
     next: usize,
 }
 
-// The fields, and the place past their lines; or that of the first wrong byte.
+// The fields of a message, and the place past the lines that say them.
 #[derive(Clone, Copy)]
-pub enum FieldsAt {
-    Are { fields: Fields, next: usize },
-    Wrong { place: usize },
+pub struct Opening {
+    pub fields: Fields,
+    pub next: usize,
 }
 
 // ---- the line of the type
 
+// The name of a type, with the end of its line.
+// (`heading` has the names by `Body`, each in one constant with its key, and stands on no crate that reads.)
+fn name_of(kind: Kind) -> &'static [u8]
+    ensures { result.now ≡ name (type_is kind) ++ LF }
+{
+    match kind {
+        Kind::VoteRequest => b"vote-request\n",
+        Kind::VoteYes => b"vote-yes\n",
+        Kind::VoteNo => b"vote-no\n",
+        Kind::Append => b"append\n",
+        Kind::AppendYes => b"append-yes\n",
+        Kind::AppendNo => b"append-no\n",
+    }
+}
+
 // The type whose name stands here.
-fn kind_in(s: &[u8], at: usize) -> KindAt
+// (`find_map` would have a `map` in its closure, and be no plainer.)
+fn kind_in(s: &[u8], at: usize) -> Option<TypeLine>
     requires { at ≤ length s.now }
     ensures { FoundKind s.now (type_among types (drop at s.now)) result }
 {
-    if let Next::At(next) = scan::stands(s, at, b"vote-request\n") {
-        return KindAt::Is {
-            kind: Kind::VoteRequest,
-            next,
-        };
+    for kind in &KINDS {
+        if let Some(next) = scan::stands(s, at, name_of(*kind)) {
+            return Some(TypeLine { kind: *kind, next });
+        }
     }
-    if let Next::At(next) = scan::stands(s, at, b"vote-yes\n") {
-        return KindAt::Is {
-            kind: Kind::VoteYes,
-            next,
-        };
-    }
-    if let Next::At(next) = scan::stands(s, at, b"vote-no\n") {
-        return KindAt::Is {
-            kind: Kind::VoteNo,
-            next,
-        };
-    }
-    if let Next::At(next) = scan::stands(s, at, b"append\n") {
-        return KindAt::Is {
-            kind: Kind::Append,
-            next,
-        };
-    }
-    if let Next::At(next) = scan::stands(s, at, b"append-yes\n") {
-        return KindAt::Is {
-            kind: Kind::AppendYes,
-            next,
-        };
-    }
-    if let Next::At(next) = scan::stands(s, at, b"append-no\n") {
-        return KindAt::Is {
-            kind: Kind::AppendNo,
-            next,
-        };
-    }
-    KindAt::Bad
+    None
 }
 
 // The line `type`.
-fn type_in(s: &[u8]) -> KindAt
+fn type_in(s: &[u8]) -> Option<TypeLine>
     ensures { FoundKind s.now (type_line s.now) result }
 {
-    let Next::At(at) = scan::stands(s, 0, b"type=") else {
-        return KindAt::Bad;
-    };
+    let at = scan::stands(s, 0, b"type=")?;
     kind_in(s, at)
 }
 
 // ---- the lines of fields
 
-// The first wrong byte of a line's number that is none. (A function of its own, since a slice that a loop hands to a far call has to lie in memory: D57.)
-fn wrong_number(s: &[u8], at: usize, lo: u32, hi: u32) -> usize
+// The line of a field, its number in a range: what it says, and the place past it; or that of its first wrong byte, looked for in the part that is none.
+fn field_in(s: &[u8], at: usize, field: Field, range: Bounds) -> Result<Number, Wrong>
     requires { at ≤ length s.now }
-    ensures { Ends s.now (seek_number lo hi 10 (drop at s.now)) result }
+    ensures { ReadNumber s.now (line_in (key (field_is field)) range.lo range.hi (drop at s.now)) (seek_line (key (field_is field)) range.lo range.hi (drop at s.now)) result }
 {
-    seek::number_place(s, at, lo, hi, text::LF)
+    let at = keys::key_in(s, at, field)?;
+    keys::number_in(s, at, range, text::LF)
 }
 
-// The line of a field, its number in lo..hi: what it says, and the place past it; or that of its first wrong byte, looked for in the part that is none.
-fn field_in(s: &[u8], at: usize, field: Field, lo: u32, hi: u32) -> NumberAt
-    requires { at ≤ length s.now }
-    ensures { ReadNumber s.now (line_in (key (field_is field)) lo hi (drop at s.now)) (seek_line (key (field_is field)) lo hi (drop at s.now)) result }
-{
-    let p = match keys::key_in(s, at, field) {
-        TextAt::Is { next } => next,
-        TextAt::Wrong { place } => return NumberAt::Wrong { place },
-    };
-    let Number::Is { value, next } = scan::number_in(s, p, lo, hi, text::LF) else {
-        return NumberAt::Wrong {
-            place: wrong_number(s, p, lo, hi),
-        };
-    };
-    NumberAt::Is { value, next }
-}
-
-// The lines of a type's fields, in order, up to the first that is none.
-fn lines_in(s: &[u8], at: usize, kind: Kind) -> Lines
+// The lines of a type's fields, in order: their numbers, and the place past them; or that of the first wrong byte.
+fn lines_in(s: &[u8], at: usize, kind: Kind) -> Result<Lines, Wrong>
     requires { at ≤ length s.now }
     ensures { FoundLines s.now at kind result }
 {
-    let mut numbers: [u32; 7] = [0; 7];
+    let mut numbers = [0; 7];
     let mut next = at;
-    let mut read: usize = 0;
-    let mut field = Field::Term;
-    let most = fields::fields_many(kind);
-    while read < most {
-        let r = ranges::range_of(kind, field, &numbers);
-        match field_in(s, next, field, r.lo, r.hi) {
-            NumberAt::Is { value, next: p } => {
-                let slot = fields::slot_of(field);
-                numbers[slot] = value;
-                next = p;
-            }
-            NumberAt::Wrong { place } => {
-                return Lines {
-                    all: false,
-                    numbers,
-                    next: place,
-                };
-            }
-        }
-        read += 1;
-        field = fields::after(kind, field);
+    for field in kind.fields() {
+        let range = ranges::range_of(kind, *field, &numbers);
+        let read = field_in(s, next, *field, range)?;
+        numbers[field.slot()] = read.value;
+        next = read.next;
     }
-    Lines {
-        all: true,
-        numbers,
-        next,
-    }
+    Ok(Lines { numbers, next })
 }
 
 // All lines before the entries.
-pub fn opening_in(s: &[u8]) -> FieldsAt
+pub fn opening_in(s: &[u8]) -> Result<Opening, Wrong>
     ensures { FoundFields s.now result }
 {
-    let KindAt::Is { kind, next: p } = type_in(s) else {
-        return FieldsAt::Wrong {
-            place: typeplace::type_place(s),
-        };
-    };
-    let lines = lines_in(s, p, kind);
-    if lines.all {
-        let fields = fields::fields_of(kind, &lines.numbers);
-        return FieldsAt::Are {
-            fields,
-            next: lines.next,
-        };
-    }
-    FieldsAt::Wrong { place: lines.next }
+    let line = type_in(s).ok_or_else(|| Wrong {
+        place: typeplace::type_place(s),
+    })?;
+    let lines = lines_in(s, line.next, line.kind)?;
+    Ok(Opening {
+        fields: fields::fields_of(line.kind, &lines.numbers),
+        next: lines.next,
+    })
 }

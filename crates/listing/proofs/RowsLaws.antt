@@ -1,156 +1,108 @@
--- An entry line written from its row, part by part: room for each, and the whole line. Assumes nothing.
-use Prim.Native.Nat.{◌*◌, ◌+◌, ◌-◌, ◌<◌, ◌≤◌, suc, ℕ}
-use lib.ListN.{drop, length, length-drop, take}
-use lib.Seq.{drop-drop, get_or-drop}
+-- Entry lines written from their rows, one after the other. Assumes nothing.
+use Prim.Native.Nat.{◌*◌, ◌+◌, ◌/◌, ◌<◌, ◌≤◌, zero, suc, ℕ}
+use lib.ListN.{drop, length, take, length-append, length-drop}
 use mathlib.Core.List.{List, [], ◌++◌, ◌∷◌, append_assoc, append-nil}
 use mathlib.Core.Path.{◌∙◌, ◌≡◌, ap, ap₂, refl, sym}
 use native.Mathlib.Omega.{arith}
+use Rattle.std.proofs.lemmas.List.{take-append-drop, take-append-le, drop-append-le, length-take-le}
+use Rattle.std.proofs.Math.Seq.{drop-append_seam}
 use Rattle.command.proofs.CommandLaws.{command_bytes_of}
 use Rattle.command.proofs.WordsLaws.{part_bytes, part_length}
-use Rattle.command.specs.Command.{command_bytes, command_of}
-use Rattle.command.specs.Words.{part, word_at}
+use Rattle.command.specs.Command.{command_bytes, command_of, command_size}
+use Rattle.command.specs.Entry.{Entry}
+use Rattle.command.specs.Words.{part, value, word_at}
 use Rattle.kinds.specs.Sizes.{row_size}
-use Rattle.rows.specs.Rows.{rows_in}
+use Rattle.rows.specs.Rows.{rows_in, entry_of}
 use Rattle.message.specs.Rows.{row_entries, row_entry}
-use Rattle.message.specs.Text.{entries_text, entry=, entry_text}
+use Rattle.message.specs.Text.{entries_text, entry_text}
+use Rattle.output.specs.Added.{Fits, Added}
+use Rattle.output.specs.declared.Output.{Output}
+use Rattle.output.proofs.AddedLaws.{added_then, added_none}
 use Rattle.text.proofs.HexLaws.{Bytes}
-use Rattle.text.proofs.WroteLaws.{wrote_length, wrote_then}
-use Rattle.message.proofs.JoinLaws.{room_first, room_next}
-use Rattle.text.specs.Decimal.{decimal}
-use Rattle.text.specs.Hex.{hex}
-use Rattle.text.specs.Line.{LF}
-use Rattle.text.specs.Wrote.{Wrote}
 
--- ---- a line up to its command
+-- A row has its command's bytes.
+pub command_held : (row : List ℕ) → Bytes row → length row ≡ row_size → command_bytes (command_of (part 4 command_size row)) ≡ part 4 command_size row
+command_held row bytes whole =
+    let room : 4 + 16 ≤ length row = omega arith in
+    command_bytes_of (part 4 16 row) (part_length 4 16 row room) (part_bytes 4 16 row room bytes)
 
-module _ (l : List ℕ) (at x : ℕ) (room : at + length (entry= ++ (decimal x ++ (58 ∷ []))) ≤ length l) (p : ℕ) (m : List ℕ) (w : Wrote l at entry= p m) where
-  -- There is room for the term.
-  pub term_number : p + length (decimal x) ≤ length m
-  term_number = room_first m (decimal x) (58 ∷ []) p (room_next l m entry= (decimal x ++ (58 ∷ [])) at p room w)
+-- ---- rows with others behind them
 
-  module _ (q : ℕ) (n : List ℕ) (v : Wrote m p (decimal x) q n) where
-    -- And for the colon.
-    pub term_colon : q + length {A = ℕ} (58 ∷ []) ≤ length n
-    term_colon = room_next m n (decimal x) (58 ∷ []) p q (room_next l m entry= (decimal x ++ (58 ∷ [])) at p room w) v
+part_before : (at w : ℕ) (xs ys : List ℕ) → at + w ≤ length xs → part at w (xs ++ ys) ≡ part at w xs
+unfolding part
+part_before at w xs ys h =
+    rw (drop-append-le at xs ys (omega arith)) (take-append-le w (drop at xs) ys (omega (arith, length-drop at xs)))
 
-    -- The three are one text.
-    pub term_whole : (o : ℕ) (k : List ℕ) → Wrote n q (58 ∷ []) o k → Wrote l at (entry= ++ (decimal x ++ (58 ∷ []))) o k
-    term_whole o k u = wrote_then w (wrote_then v u)
+-- The entry of the first row.
+entry_before : (xs ys : List ℕ) → row_size ≤ length xs → row_entry (xs ++ ys) ≡ row_entry xs
+unfolding word_at
+entry_before xs ys h =
+    ap₂ (λ (n c : List ℕ). entry_of (value 0 n) (command_of c)) (part_before 0 4 xs ys (omega arith)) (part_before 4 16 xs ys (omega arith))
 
--- ---- its command, and its end
-
-module _ (l bs : List ℕ) (at : ℕ) (room : at + length (hex bs ++ LF) ≤ length l) where
-  -- There is room for the digits.
-  pub digits_hex : at + length (hex bs) ≤ length l
-  digits_hex = room_first l (hex bs) LF at room
-
-  module _ (p : ℕ) (m : List ℕ) (w : Wrote l at (hex bs) p m) where
-    -- And for the line's end.
-    pub digits_lf : p + length LF ≤ length m
-    digits_lf = room_next l m (hex bs) LF at p room w
-
-    -- The two are one text.
-    pub digits_whole : (q : ℕ) (n : List ℕ) → Wrote m p LF q n → Wrote l at (hex bs ++ LF) q n
-    digits_whole q n v = wrote_then w v
-
--- ---- a row
-
-module _ (rows : List ℕ) (from : ℕ) (bytes : Bytes rows) (inside : from + row_size ≤ length rows) where
-  -- The command's bytes.
-  abbrev held : List ℕ
-  held = take (from + row_size - (from + 4)) (drop (from + 4) rows)
-
-  held_is : held ≡ part 4 16 (drop from rows)
-  unfolding part
-  held_is =
-      let e : from + row_size - (from + 4) ≡ 16 = omega arith in
-      rw (e, drop-drop 4 from rows)
-
-  room_in_row : 4 + 16 ≤ length (drop from rows)
-  room_in_row = rw (length-drop from rows) (omega arith)
-
-  drop_bytes : Bytes (drop from rows)
-  drop_bytes i = rw (get_or-drop from rows i 0) (bytes (from + i))
-
-  -- The row's line.
-  row_text : (x : ℕ) → x ≡ word_at from 4 rows → entry_text (row_entry (drop from rows)) ≡ (entry= ++ (decimal x ++ (58 ∷ []))) ++ (hex held ++ LF)
-  unfolding entry_text word_at part
-  row_text x e =
-      let c : command_bytes (command_of (part 4 16 (drop from rows))) ≡ held = command_bytes_of (part 4 16 (drop from rows)) (part_length 4 16 (drop from rows) room_in_row) (part_bytes 4 16 (drop from rows) room_in_row drop_bytes) ∙ sym held_is in
-      ap₂ (λ (y : ℕ) (l : List ℕ). entry= ++ (decimal y ++ ((58 ∷ []) ++ (hex l ++ LF)))) (sym e) c
-      ∙ sym (append_assoc entry= (decimal x ++ (58 ∷ [])) (hex held ++ LF) ∙ ap (λ (l : List ℕ). entry= ++ l) (append_assoc (decimal x) (58 ∷ []) (hex held ++ LF)))
-
-  module _ (l : List ℕ) (at : ℕ) (room : at + length (entry_text (row_entry (drop from rows))) ≤ length l) (x : ℕ) (e : x ≡ word_at from 4 rows) where
-    whole_room : at + length ((entry= ++ (decimal x ++ (58 ∷ []))) ++ (hex held ++ LF)) ≤ length l
-    whole_room = rw (row_text x e) at room
-
-    -- There is room for the line up to its command.
-    pub row_term : at + length (entry= ++ (decimal x ++ (58 ∷ []))) ≤ length l
-    row_term = room_first l (entry= ++ (decimal x ++ (58 ∷ []))) (hex held ++ LF) at whole_room
-
-    module _ (p : ℕ) (m : List ℕ) (w : Wrote l at (entry= ++ (decimal x ++ (58 ∷ []))) p m) where
-      -- And for the rest.
-      pub row_digits : p + length (hex held ++ LF) ≤ length m
-      row_digits = room_next l m (entry= ++ (decimal x ++ (58 ∷ []))) (hex held ++ LF) at p whole_room w
-
-      -- The two are the line.
-      pub row_whole : (q : ℕ) (n : List ℕ) → Wrote m p (hex held ++ LF) q n → Wrote l at (entry_text (row_entry (drop from rows))) q n
-      row_whole q n v = rw (row_text x e) (wrote_then w v)
+-- The entries of the first rows.
+entries_before : (n : ℕ) (xs ys : List ℕ) → n * row_size ≤ length xs → row_entries n (xs ++ ys) ≡ row_entries n xs
+unfolding rows_in
+entries_before zero xs ys h = refl
+entries_before (suc n) xs ys h =
+    ap₂ (λ (e : Entry) (es : List Entry). e ∷ es) (entry_before xs ys (omega arith))
+    (ap (row_entries n) (drop-append-le row_size xs ys (omega arith)) ∙ entries_before n (drop row_size xs) ys (omega (arith, length-drop row_size xs)))
 
 -- ---- several rows
 
--- Of the first rows' lines, those that stand: what was written up to the place i, and what is left to write.
-pub record Writing (l rows : List ℕ) (at count : ℕ) (now : List ℕ) (i from left : ℕ) : Type 0 where
+-- How many rows there are.
+abbrev rows_many : List ℕ → ℕ
+rows_many rest = length rest / row_size
+
+-- The lines of these rows.
+abbrev lines_of : List ℕ → List ℕ
+lines_of rest = entries_text (row_entries (rows_many rest) rest)
+
+-- Of the text t, what is written of it; the lines of the rows that are left are the rest, and there is room for them.
+pub record Writing (before : Output) (t : List ℕ) (now : Output) (rest : List ℕ) : Type 0 where
   pub done : List ℕ
-  pub wrote : Wrote l at done i now
-  pub text : entries_text (row_entries count rows) ≡ done ++ entries_text (row_entries left (drop from rows))
-  pub inside : from + left * row_size ≤ length rows
+  pub added : Added before done now
+  pub text : t ≡ done ++ lines_of rest
+  pub room : Fits now (lines_of rest)
 
-module _ (l rows : List ℕ) (at count : ℕ) where
-  -- At first nothing stands.
-  pub writing_none : count * row_size ≤ length rows → Writing l rows at count l at 0 count
-  writing_none h = record { done = []; wrote = record { to = omega arith; text = refl }; text = refl; inside = omega arith }
+-- At first nothing is.
+pub writing_none : {o : Output} (count : ℕ) (rows rest : List ℕ) → count * row_size ≤ length rows → rest ≡ take (count * row_size) rows
+    → Fits o (entries_text (row_entries count rows)) → Writing o (entries_text (row_entries count rows)) o rest
+writing_none {o} count rows rest h e room =
+    let n : rows_many rest ≡ count = omega (arith, ap length e, length-take-le (count * row_size) rows h) in
+    let same : row_entries count rows ≡ row_entries count rest =
+    ap (row_entries count) (sym (take-append-drop (count * row_size) rows))
+    ∙ entries_before count (take (count * row_size) rows) (drop (count * row_size) rows) (omega (arith, length-take-le (count * row_size) rows h))
+    ∙ ap (row_entries count) (sym e) in
+    let text : entries_text (row_entries count rows) ≡ lines_of rest = rw (same, n) refl in
+    record { done = []; added = added_none; text = text; room = omega (arith, room, ap length text) }
 
-  module _ (room : at + length (entries_text (row_entries count rows)) ≤ length l) (now : List ℕ) (i from left : ℕ) (so_far : Writing l rows at count now i from left) where
-    -- The slice has its length.
-    pub writing_length : length now ≡ length l
-    writing_length = wrote_length so_far.wrote
+module _ {o p : Output} {t rest : List ℕ} (row next : List ℕ) (so_far : Writing o t p rest) (front : rest ≡ row ++ next) (whole : length row ≡ row_size) where
+  next_text : lines_of rest ≡ entry_text (row_entry row) ++ lines_of next
+  unfolding rows_in entries_text
+  next_text =
+      let n : rows_many rest ≡ suc (rows_many next) = omega (arith, ap length front, length-append row next) in
+      let tail : drop row_size (row ++ next) ≡ next = rw (← whole) (drop-append_seam row next) in
+      rw (n, front)
+      (ap₂ (λ (e : Entry) (l : List ℕ). entry_text e ++ entries_text (row_entries (rows_many next) l)) (entry_before row next (omega arith)) tail)
 
-    -- All stand.
-    pub writing_all : left ≤ 0 → Wrote l at (entries_text (row_entries count rows)) i now
-    unfolding rows_in entries_text
-    writing_all h =
-        let z : left ≡ 0 = omega arith in
-        let e : entries_text (row_entries count rows) ≡ so_far.done = so_far.text ∙ ap (λ (n : ℕ). so_far.done ++ entries_text (row_entries n (drop from rows))) z ∙ append-nil so_far.done in
-        rw e so_far.wrote
+  -- There is room for the next row's line.
+  pub writing_room : Fits p (entry_text (row_entry row))
+  writing_room = omega (arith, so_far.room, ap length next_text, length-append (entry_text (row_entry row)) (lines_of next))
 
-    module _ (more : 0 < left) where
-      next_text : entries_text (row_entries left (drop from rows)) ≡ entry_text (row_entry (drop from rows)) ++ entries_text (row_entries (left - 1) (drop (from + row_size) rows))
-      unfolding rows_in entries_text
-      next_text =
-          let one : left ≡ suc (left - 1) = omega arith in
-          ap (λ (n : ℕ). entries_text (row_entries n (drop from rows))) one
-          ∙ ap (λ (r : List ℕ). entry_text (row_entry (drop from rows)) ++ entries_text (row_entries (left - 1) r)) (drop-drop row_size from rows)
+  -- It stands too.
+  pub writing_again : {q : Output} → Added p (entry_text (row_entry row)) q → Writing o t q next
+  writing_again {q} w =
+      record {
+        done = so_far.done ++ entry_text (row_entry row);
+        added = added_then so_far.added w;
+        text = so_far.text ∙ ap (λ (l : List ℕ). so_far.done ++ l) next_text ∙ sym (append_assoc so_far.done (entry_text (row_entry row)) (lines_of next));
+        room = omega (arith, so_far.room, ap length next_text, length-append (entry_text (row_entry row)) (lines_of next), w.at, w.kept);
+      }
 
-      -- The next row lies in the rows.
-      pub writing_row : from + row_size ≤ length rows
-      writing_row = omega (arith, so_far.inside)
-
-      -- There is room for its line.
-      pub writing_room : i + length (entry_text (row_entry (drop from rows))) ≤ length now
-      writing_room =
-          room_first now (entry_text (row_entry (drop from rows))) (entries_text (row_entries (left - 1) (drop (from + row_size) rows))) i
-          (rw (← next_text) (room_next l now so_far.done (entries_text (row_entries left (drop from rows))) at i (rw so_far.text at room) so_far.wrote))
-
-      -- It stands too.
-      pub writing_again : (j : ℕ) (m : List ℕ) → Wrote now i (entry_text (row_entry (drop from rows))) j m → Writing l rows at count m j (from + row_size) (left - 1)
-      writing_again j m w =
-          record {
-            done = so_far.done ++ entry_text (row_entry (drop from rows));
-            wrote = wrote_then so_far.wrote w;
-            text =
-                so_far.text
-                ∙ ap (λ (t : List ℕ). so_far.done ++ t) next_text
-                ∙ sym (append_assoc so_far.done (entry_text (row_entry (drop from rows))) (entries_text (row_entries (left - 1) (drop (from + row_size) rows))));
-            inside = omega (arith, so_far.inside);
-          }
+-- All stand.
+pub writing_all : {o p : Output} {t rest : List ℕ} → Writing o t p rest → length rest < row_size → Added o t p
+unfolding rows_in entries_text
+writing_all {o} {p} {t} {rest} so_far short =
+    let n : rows_many rest ≡ 0 = omega arith in
+    let e : t ≡ so_far.done = so_far.text ∙ ap (λ (k : ℕ). so_far.done ++ entries_text (row_entries k rest)) n ∙ append-nil so_far.done in
+    rw e so_far.added

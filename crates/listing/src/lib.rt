@@ -1,58 +1,36 @@
-// Entry lines written into a lent buffer from rows of 20 bytes, as a state's table has them.
+// Entry lines written behind what an output has, from rows of 20 bytes, as a state's table has them.
 #![tactic(auto)]
 
-ghost use Rattle.std.specs.Prelude.{[], ◌∷◌, ◌++◌, ◌+◌, ◌*◌, ◌≤◌, length, drop};
+ghost use Rattle.std.specs.Prelude.{◌≡◌, ◌*◌, ◌≤◌, length};
 ghost use Rattle.kinds.specs.Sizes.{row_size};
-ghost use Rattle.message.specs.Text.{entry=, entry_text, entries_text};
+ghost use Rattle.message.specs.Text.{entry_text, entries_text};
 ghost use Rattle.message.specs.Rows.{row_entry, row_entries};
-ghost use Rattle.text.specs.Decimal.{decimal};
-ghost use Rattle.text.specs.Hex.{hex};
-ghost use Rattle.text.specs.Line.{LF};
-ghost use Rattle.text.specs.Wrote.{Wrote};
+ghost use Rattle.output.specs.Added.{Fits, Added};
 
-// An entry line up to its command.
-fn write_term(out: &mut [u8], at: usize, term: u32) -> usize
-    requires { at + length (entry= ++ (decimal term ++ (58 ∷ []))) ≤ length out.old }
-    ensures { Wrote out.old at (entry= ++ (decimal term ++ (58 ∷ []))) result out.new }
-{
-    let p = print::put(out, at, b"entry=");
-    let q = print::write_number(out, p, term);
-    print::put(out, q, b":")
-}
+use output::Output;
 
-// The digits of a command, and the line's end.
-fn write_digits(out: &mut [u8], at: usize, bytes: &[u8]) -> usize
-    requires { at + length (hex bytes.now ++ LF) ≤ length out.old }
-    ensures { Wrote out.old at (hex bytes.now ++ LF) result out.new }
+// The entry line of a row.
+#[tactic(auto, using(output::proofs::AddedLaws::parts), unfolding(message::specs::Text::entry_text))]
+fn write_row(out: &mut Output, row: &[u8])
+    requires whole { length row.now ≡ row_size }
+    requires room { Fits out.old (entry_text (row_entry row.now)) }
+    ensures { Added out.old (entry_text (row_entry row.now)) out.new }
 {
-    let p = in_hex::write_hex(out, at, bytes);
-    print::put(out, p, b"\n")
-}
-
-// The entry line of the row from a place on.
-fn write_row(out: &mut [u8], at: usize, rows: &[u8], from: usize) -> usize
-    requires { (from + row_size ≤ length rows.now) × (at + length (entry_text (row_entry (drop from rows.now))) ≤ length out.old) }
-    ensures { Wrote out.old at (entry_text (row_entry (drop from rows.now))) result out.new }
-{
-    let term = words::get32(rows, from);
-    let p = write_term(out, at, term);
-    let a = from + 4;
-    let e = from + kinds::ROW;
-    write_digits(out, p, &rows[a..e])
+    out.put(b"entry=");
+    out.number(words::get32(row, 0));
+    out.put(b":");
+    out.hex(&row[4..kinds::ROW]);
+    out.put(b"\n");
 }
 
 // The entry lines of the first rows. The hub's step lends its own table.
-pub fn write_rows(out: &mut [u8], at: usize, rows: &[u8], count: u32) -> usize
-    requires { (count * row_size ≤ length rows.now) × (at + length (entries_text (row_entries count rows.now)) ≤ length out.old) }
-    ensures { Wrote out.old at (entries_text (row_entries count rows.now)) result out.new }
+// (Rows and how many of them: the hub lends its table as it lies, with more rows than the message has.)
+pub fn write_rows(out: &mut Output, rows: &[u8], count: u32)
+    requires rows { count * row_size ≤ length rows.now }
+    requires room { Fits out.old (entries_text (row_entries count rows.now)) }
+    ensures { Added out.old (entries_text (row_entries count rows.now)) out.new }
 {
-    let mut i = at;
-    let mut from: usize = 0;
-    let mut left = count;
-    while 0 < left {
-        i = write_row(out, i, rows, from);
-        from += kinds::ROW;
-        left -= 1;
+    for row in rows[..count as usize * kinds::ROW].chunks_exact(kinds::ROW) {
+        write_row(out, row);
     }
-    i
 }

@@ -1,3 +1,3 @@
 pub mod ConfirmedLaws
 pub mod LengthLaws
-pub mod TriedLaws
+pub mod BestLaws

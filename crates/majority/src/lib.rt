@@ -10,20 +10,13 @@ ghost use Rattle.majority.specs.Numbers.{place_numbers};
 use kinds::Place;
 
 // A majority of the hubs 1..n has confirmed a length of p or more.
+// (n is a group's size, which `gate` has tested: three contracts ask it, and `Ready` tells it to the only caller above.)
 fn is_confirmed(n: u32, confirmed: [Place; 7], p: Place) -> bool
     requires { n ≤ hubs_most }
     ensures { result ≡ confirmed_by n (place_numbers confirmed) p.0 }
 {
-    let mut found: u32 = 0;
-    let mut i: u32 = 0;
-    while i < n {
-        let at = i as usize;
-        if !confirmed[at].below(p) {
-            found += 1;
-        }
-        i += 1;
-    }
-    n / 2 + 1 <= found
+    let hubs = n as usize;
+    hubs / 2 + 1 <= confirmed[..hubs].iter().filter(|l| p <= **l).count()
 }
 
 // The largest place confirmed by a majority; 0 if there is none. It is the largest of the hubs' lengths that a majority has confirmed, so no
@@ -32,17 +25,12 @@ pub fn majority_place(n: u32, confirmed: [Place; 7]) -> Place
     requires { n ≤ hubs_most }
     ensures { result ≡ place (majority_place n (place_numbers confirmed)) }
 {
-    let mut best = Place::of(0);
-    let mut tried: u32 = 0;
-    while tried < n {
-        let p = confirmed[tried as usize];
-        if best.below(p) {
-            if is_confirmed(n, confirmed, p) {
-                best = p;
-            }
-        }
-        tried += 1;
-    }
-    let last = Place::of(kinds::places());
-    if last.below(best) { last } else { best }
+    let known = &confirmed[..n as usize];
+    let best = known
+        .iter()
+        .copied()
+        .filter(|p| is_confirmed(n, confirmed, *p))
+        .max();
+    best.unwrap_or(Place::from(0))
+        .min(Place::from(kinds::places()))
 }

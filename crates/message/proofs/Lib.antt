@@ -6,5 +6,4 @@ pub mod RangeLegal
 pub mod RangeLaws
 pub mod AnswerLaws
 pub mod NoneEmpty
-pub mod JoinLaws
 pub mod PlaceLaws

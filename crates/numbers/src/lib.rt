@@ -1,4 +1,5 @@
-// A message's eight numbers, as C has them: the number of its type, then the numbers of its fields, each in its slot.
+// A message's eight numbers, as C has them: the number of its type, then the numbers of its fields, each in its slot. They are turned into fields
+// and back by functions, since `From` can't stand here: both types are of other crates.
 #![tactic(auto)]
 
 ghost use Rattle.std.specs.Prelude.{◌≡◌, ◌≤◌, length};
@@ -15,22 +16,19 @@ pub const MANY: usize = 8;
 // ---- from fields to numbers
 
 // The numbers of a message's fields.
-fn numbers_of(f: Fields) -> [u32; 8]
+fn numbers_of(f: Fields) -> [u32; MANY]
     ensures { result ≡ numbers_in f }
 {
-    let term = f.term.number();
-    let from = f.from.number();
-    let to = f.to.number();
-    let body = f.body;
-    match body {
-        Body::VoteRequest { last, ballot } => {
-            [1, term, from, to, last.number(), ballot.number(), 0, 0]
-        }
+    let term = f.term.into();
+    let from = f.from.into();
+    let to = f.to.into();
+    match f.body {
+        Body::VoteRequest { last, ballot } => [1, term, from, to, last.into(), ballot.into(), 0, 0],
         Body::VoteYes {
             last,
             ballot,
             count,
-        } => [2, term, from, to, last.number(), ballot.number(), 0, count],
+        } => [2, term, from, to, last.into(), ballot.into(), 0, count],
         Body::VoteNo => [3, term, from, to, 0, 0, 0, 0],
         Body::Append {
             prev,
@@ -42,13 +40,13 @@ fn numbers_of(f: Fields) -> [u32; 8]
             term,
             from,
             to,
-            prev.number(),
-            prevterm.number(),
-            chosen.number(),
+            prev.into(),
+            prevterm.into(),
+            chosen.into(),
             count,
         ],
-        Body::AppendYes { end } => [5, term, from, to, end.number(), 0, 0, 0],
-        Body::AppendNo { length } => [6, term, from, to, length.number(), 0, 0, 0],
+        Body::AppendYes { end } => [5, term, from, to, end.into(), 0, 0, 0],
+        Body::AppendNo { length } => [6, term, from, to, length.into(), 0, 0, 0],
     }
 }
 
@@ -57,36 +55,21 @@ pub fn put_numbers(f: Fields, numbers: &mut [u32])
     requires { message_numbers ≤ length numbers.old }
     ensures { numbers.new ≡ sets numbers.old 0 (numbers_in f) }
 {
-    let own = numbers_of(f);
-    numbers[0] = own[0];
-    numbers[1] = own[1];
-    numbers[2] = own[2];
-    numbers[3] = own[3];
-    numbers[4] = own[4];
-    numbers[5] = own[5];
-    numbers[6] = own[6];
-    numbers[7] = own[7];
+    numbers[..MANY].copy_from_slice(&numbers_of(f));
 }
 
 // Whether eight numbers are those of these fields.
-pub fn are_numbers(numbers: &[u32], f: Fields) -> bool
-    requires { length numbers.now ≡ message_numbers }
+#[tactic(auto, using(crate::proofs::NumbersLaws::same_equal))]
+pub fn are_numbers(numbers: &[u32; MANY], f: Fields) -> bool
     ensures { result ≡ same (numbers_in f) numbers.now }
 {
-    let own = numbers_of(f);
-    let mut i: usize = 0;
-    while i < MANY {
-        if own[i] != numbers[i] {
-            return false;
-        }
-        i += 1;
-    }
-    true
+    numbers_of(f) == *numbers
 }
 
 // ---- from numbers to fields
 
 // The type of a number. What is no type's number is taken for the last.
+#[tactic(auto, unfolding(crate::specs::Numbers::kind_with))]
 fn kind_with(number: u32) -> Kind
     ensures { result ≡ kind_with number }
 {
@@ -101,13 +84,11 @@ fn kind_with(number: u32) -> Kind
 }
 
 // The fields of eight numbers.
-pub fn fields_with(numbers: &[u32]) -> Fields
-    requires { length numbers.now ≡ message_numbers }
+#[tactic(auto, unfolding(crate::specs::Numbers::fields_with))]
+pub fn fields_with(numbers: &[u32; MANY]) -> Fields
     ensures { result ≡ fields_with numbers.now }
 {
-    let own: [u32; 7] = [
-        numbers[1], numbers[2], numbers[3], numbers[4], numbers[5], numbers[6], numbers[7],
-    ];
-    let kind = kind_with(numbers[0]);
-    fields::fields_of(kind, &own)
+    let [kind, term, from, to, first, second, third, count] = *numbers;
+    let own = [term, from, to, first, second, third, count];
+    fields::fields_of(kind_with(kind), &own)
 }

@@ -4,3 +4,4 @@ pub mod GainLaws
 pub mod AnswerLaws
 pub mod Theorems
 pub mod Vectors
+pub mod CaseLaws

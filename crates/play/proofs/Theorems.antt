@@ -9,6 +9,9 @@ use lib.Dec.{T, leb}
 use lib.IntN.{ℤ, pos, negsuc}
 use lib.Ieee.{Float, binary32, to_bits, div, lt, le, fits}
 use lib.Ieee.Bits.{of_bits-fits}
+use Rattle.std.specs.Prelude.{Result, Err}
+use Rattle.kinds.specs.declared.Refusal.{Refusal}
+use Rattle.kinds.specs.declared.Refusal.TheVariants.{NotPlayable, BadCalibration, BadElapsed}
 use Rattle.kinds.proofs.BoolLaws.{and_first, and_second}
 use Rattle.command.specs.Command.{Command, is_gain, legal_command, command_of, duration_most}
 use Rattle.command.specs.Case.{case_of, motion_of}
@@ -24,8 +27,7 @@ use Rattle.play.specs.Answer.{drives, motion_played, played, result_of, calibrat
 use Rattle.play.specs.Theorems.{OnRamp, LevelIsUnheld, LevelBegins, LevelRisesWithin, LevelFallsWithin, LevelRises, LevelFalls}
 use Rattle.play.specs.Theorems.{DriveIsUnheld, DriveIsNotBelowFloor, DriveFollowsLevel, DriveIsGain, OverdueIsNoError}
 use Rattle.play.specs.declared.Calibration.{Calibration}
-use Rattle.play.specs.declared.Played.{Played}
-use Rattle.play.specs.declared.Played.TheVariants.{NotPlayable}
+use Rattle.play.specs.declared.Drives.{Drives}
 use Rattle.play.proofs.PlayLaws.{drive_none}
 use Rattle.play.proofs.GainLaws.{Gain, gain_of_bits, gain_of, gain_bits, gain_nought, nought_least, above_nought, held_gain}
 use Rattle.play.proofs.GainLaws.{quotient, quotient_small, quotient_none, quotient_grows}
@@ -182,11 +184,11 @@ drive_at_gain cal k case duration (pos e) g t u =
 drive_at_gain cal k case duration (negsuc e) g t u = absurd (false≢true u)
 
 -- What an answer drives is a gain; a refusal drives +0.
-abbrev DrivesGain : Played → Type 0
+abbrev DrivesGain : Result Drives Refusal → Type 0
 DrivesGain p = is_gain (result_of p).drive ≡ true
 
-refusal : DrivesGain NotPlayable
-refusal = gain_bits nought gain_nought
+refusal : (r : Refusal) → DrivesGain (Err r)
+refusal r = gain_bits nought gain_nought
 
 pub drive_is_gain : DriveIsGain
 unfolding played motion_played drives motion_of
@@ -200,9 +202,9 @@ drive_is_gain l elapsed floor ceiling =
     (λ e.
     let legal = is_command_legal l t in
     rw (t, c, e) (gain_bits _ (drive_at_gain cal (of_bits_lem floor ceiling c) _ _ elapsed (legal_gains (command_of l) legal) (legal_timed (command_of l) legal) e)))
-    (λ e. rw (t, c, e) refusal))
-    (λ c. rw (t, c) refusal))
-    (λ t. rw t refusal)
+    (λ e. rw (t, c, e) (refusal BadElapsed)))
+    (λ c. rw (t, c) (refusal BadCalibration)))
+    (λ t. rw t (refusal NotPlayable))
 
 pub overdue_is_no_error : OverdueIsNoError
 unfolding played motion_played drives drive_at

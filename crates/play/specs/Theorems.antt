@@ -1,5 +1,5 @@
 -- What holds of every time left and every drive (rule R47): the statements. Their proofs stand in proofs/Theorems. Assumes nothing.
-use Rattle.std.specs.Prelude.{ℕ, ◌≤◌, ◌<◌, true, false, List, ◌≡◌, ℤ, pos, Float}
+use Rattle.std.specs.Prelude.{ℕ, ◌≤◌, ◌<◌, true, false, List, Ok, ◌≡◌, ℤ, pos, Float}
 use Rattle.std.specs.Int.Signed.{le_z}
 use Rattle.std.specs.Float.{binary32}
 use Rattle.std.specs.Float.Ieee.{div, lt, le}
@@ -10,7 +10,6 @@ use Rattle.command.specs.declared.Case.TheVariants.{Ramp}
 use Rattle.play.specs.Play.{gain, nought, whole, IsNumber, between, time_left, level_of, drive_of, is_calibration, is_elapsed}
 use Rattle.play.specs.Answer.{played, result_of, calibration_of}
 use Rattle.play.specs.declared.Calibration.{Calibration}
-use Rattle.play.specs.declared.Played.TheVariants.{Drives}
 
 -- ---- whole numbers
 
@@ -114,4 +113,4 @@ abbrev pub OverdueIsNoError : Type 0
 OverdueIsNoError =
     (l : List ℕ) (elapsed : ℤ) (cal : Calibration) → is_command l ≡ true → is_calibration cal ≡ true → is_elapsed elapsed ≡ true
     → le_z (motion_of (command_of l)).duration elapsed ≡ true
-    → played l elapsed cal ≡ Drives (time_left (motion_of (command_of l)).duration elapsed) nought
+    → played l elapsed cal ≡ Ok (record { left = time_left (motion_of (command_of l)).duration elapsed; drive = nought })

@@ -1,3 +1,3 @@
+pub mod ElapsedLaws
 pub mod TimeLaws
-pub mod MotionLaws
 pub mod NumbersLaws

@@ -1,27 +1,19 @@
--- Laws of times: what the casts between signed and unsigned numbers keep, and that a time left fits. Assumes nothing.
+-- Laws of a legal duration and of a time left: what their casts keep, and that they fit (docs/PORT.md names them). Assumes nothing.
 use Prim.Native.Nat.{ℕ, zero, suc, ◌≤◌, ◌<◌}
 use native.Mathlib.Omega.{arith}
 use mathlib.Core.Path.{◌≡◌, refl, sym, ◌∙◌, ap, subst}
-use mathlib.Core.Bool.{true, false≢true}
-use borrow.Author.Tests.{leb-true}
 use borrow.Author.Rules.{sfits_of, Fits-under}
-use lib.Dec.{T, leb, ltb}
-use lib.IntN.{ℤ, pos, negsuc, nat_abs, ◌-ℤ◌}
+use lib.Dec.{T, ltb}
+use lib.IntN.{ℤ, pos, nat_abs, ◌-ℤ◌}
 use lib.Signed.{mag, non_neg}
 use mir.Syntax.{Width, w32, w64}
 use mir.Val.{Fits, SFits, to_z, of_z}
 use mir.Facts.{to_z-of_z, to_z_pos}
-use Rattle.kinds.proofs.BoolLaws.{and_second}
 use Rattle.command.specs.Command.{duration_most}
 use Rattle.command.proofs.Tests.{by_test}
-use Rattle.play.specs.Play.{time_left, elapsed_most, is_elapsed, Lasts, Timed}
+use Rattle.play.specs.Play.{time_left, elapsed_most, Lasts, Timed}
 
--- An elapsed time in range, and a legal duration, are of so many ms.
-elapsed_ms : (n : ℤ) → is_elapsed n ≡ true → Lasts elapsed_most n
-unfolding is_elapsed
-elapsed_ms (pos n) h = record { ms = n; is = refl; most = leb-true n elapsed_most (and_second (leb 0 n) _ h) }
-elapsed_ms (negsuc n) h = absurd (false≢true h)
-
+-- A legal duration is of so many ms.
 duration_ms : (n : ℤ) → Timed n → Lasts elapsed_most n
 duration_ms n t = record { ms = t.ms; is = t.is; most = omega (arith, t.most) }
 
@@ -38,14 +30,6 @@ module _ (w : Width) (n : ℤ) (fits : SFits w n) (t : Lasts elapsed_most n) whe
   ms_is : pos (nat_abs (to_z w (of_z w n))) ≡ n
   ms_is = ap pos ms_same ∙ sym t.is
 
--- An elapsed time.
-module _ (n : ℤ) (fits : SFits w64 n) (h : is_elapsed n ≡ true) where
-  pub elapsed_kept : T (non_neg (to_z w64 (of_z w64 n))) × Fits w32 (nat_abs (to_z w64 (of_z w64 n)))
-  elapsed_kept = ms_kept w64 n fits (elapsed_ms n h)
-
-  pub elapsed_is : pos (nat_abs (to_z w64 (of_z w64 n))) ≡ n
-  elapsed_is = ms_is w64 n fits (elapsed_ms n h)
-
 -- A legal command's duration.
 module _ (n : ℤ) (fits : SFits w32 n) (t : Timed n) where
   pub duration_kept : T (non_neg (to_z w32 (of_z w32 n))) × Fits w32 (nat_abs (to_z w32 (of_z w32 n)))
@@ -54,9 +38,6 @@ module _ (n : ℤ) (fits : SFits w32 n) (t : Timed n) where
   pub duration_is : (pos (nat_abs (to_z w32 (of_z w32 n))) ≡ n) × (nat_abs (to_z w32 (of_z w32 n)) ≤ duration_most)
   unfolding duration_ms
   duration_is = (ms_is w32 n fits (duration_ms n t), omega (arith, ms_same w32 n fits (duration_ms n t), t.most))
-
-pub timed_fits : (n : ℤ) → Timed n → SFits w32 n
-timed_fits n t = subst (λ z. SFits w32 z) (sym t.is) (sfits_of (omega (arith, t.most)))
 
 -- ---- the time left
 

@@ -1,127 +1,109 @@
-// A command played (rule R47): what is refused is told by its outcome, and for all else the time left and the drive; as an enum, and as the numbers that
-// C is given.
+// A command played (rule R47): what is refused, and for all else the time left and the drive; and the same by the numbers that C gives and is given.
 #![tactic(auto)]
 
-ghost use Rattle.std.specs.Prelude.{◌≡◌, ◌≤◌, pos};
-ghost use Rattle.command.specs.Command.{duration_most};
-ghost use Rattle.play.specs.Play.{time_left, Timed, is_calibration, is_elapsed};
-ghost use Rattle.play.specs.Answer.{drives, motion_played, played, refused_with, result_of, calibration_of, IsPlayed};
+ghost use Rattle.std.specs.Prelude.{◌≡◌, pos};
+ghost use Rattle.std.specs.Float.{binary32};
+ghost use Rattle.std.specs.Float.Ieee.{to_bits};
+ghost use Rattle.command.specs.Command.{is_gain};
+ghost use Rattle.play.specs.Play.{Timed, is_calibration, is_elapsed};
+ghost use Rattle.play.specs.Answer.{drives, played, result_of, calibration_of, IsPlayed};
 
-use command::{Motion, Read};
-use play::{Calibration, Played};
+use command::Motion;
+use kinds::Refusal;
+use play::{Calibration, Drives};
+use std::num::{f32_from_bits_with_nan, f32_to_bits_with_nan};
 
 // The greatest elapsed time, in ms.
 const ELAPSED_MOST: i64 = 2_147_483_647;
 
+// What a refusal gives.
+const NOTHING: Drives = Drives {
+    left: 0,
+    drive: 0.0,
+};
+
 // ---- what is refused
 
+#[tactic(auto, unfolding(command::specs::Command::is_gain))]
+fn is_gain(x: f32) -> bool
+    ensures { result ≡ is_gain (to_bits binary32 x) }
+{
+    f32_to_bits_with_nan(x) <= command::GAIN_MOST
+}
+
 // Whether these are two gains, the floor not above the ceiling.
+#[tactic(auto, unfolding(play::specs::Play::is_calibration))]
 fn is_calibration(cal: Calibration) -> bool
     ensures { result ≡ is_calibration cal }
 {
-    let floor = motion::bits_of(cal.floor) <= command::GAIN_MOST;
-    let ceiling = motion::bits_of(cal.ceiling) <= command::GAIN_MOST;
-    floor & (ceiling & !(cal.ceiling < cal.floor))
+    is_gain(cal.floor) && is_gain(cal.ceiling) && !(cal.ceiling < cal.floor)
 }
 
 // Whether an elapsed time is in range.
+#[tactic(auto, unfolding(play::specs::Play::is_elapsed))]
 fn is_elapsed(n: i64) -> bool
     ensures { result ≡ is_elapsed n }
 {
-    (0 <= n) & (n <= ELAPSED_MOST)
+    (0..=ELAPSED_MOST).contains(&n)
 }
 
 // ---- what is played
 
-// The ms of a legal command's duration.
-fn duration_of(duration: i32) -> u32
-    requires { Timed duration }
-    ensures { (pos result ≡ duration) × (result ≤ duration_most) }
-{
-    duration as u32
-}
-
-// Below zero where the command is overdue.
-fn time_left(duration: u32, elapsed: u32) -> i64
-    ensures { result ≡ time_left (pos duration) (pos elapsed) }
-{
-    (duration as i64) - (elapsed as i64)
-}
-
-// The time left and the drive.
-fn drives(m: Motion, elapsed: u32, cal: Calibration) -> Played
+// The time left, below zero where the command is overdue, and the drive.
+#[tactic(auto, unfolding(play::specs::Answer::drives))]
+fn drives(m: Motion, elapsed: u32, cal: Calibration) -> Drives
     requires { Timed m.duration }
     ensures { result ≡ drives m (pos elapsed) cal }
 {
-    let case = m.case;
-    let duration = duration_of(m.duration);
-    let drive = drive::drive_at(cal, case, duration, elapsed);
-    Played::Drives(time_left(duration, elapsed), drive)
-}
-
-// Plays a motion.
-fn play_motion(m: Motion, elapsed: i64, cal: Calibration) -> Played
-    requires { Timed m.duration }
-    ensures { result ≡ motion_played m elapsed cal }
-{
-    if !is_calibration(cal) {
-        return Played::BadCalibration;
+    Drives {
+        left: i64::from(m.duration) - i64::from(elapsed),
+        drive: drive::drive_at(cal, m.case, m.duration as u32, elapsed),
     }
-    if !is_elapsed(elapsed) {
-        return Played::BadElapsed;
-    }
-    drives(m, elapsed as u32, cal)
 }
 
 // Plays a command's 16 bytes.
-pub fn play(bytes: &[u8], elapsed: i64, cal: Calibration) -> Played
+#[tactic(auto, using(play::proofs::AnswerLaws::played_illegal, play::proofs::AnswerLaws::read_timed))]
+pub fn play(bytes: &[u8], elapsed: i64, cal: Calibration) -> Result<Drives, Refusal>
     ensures { result ≡ played bytes.now elapsed cal }
 {
-    let read = commands::read_command(bytes);
-    match read {
-        Read::Legal(m) => play_motion(m, elapsed, cal),
-        Read::Illegal => Played::NotPlayable,
+    let Ok(m) = commands::read_command(bytes) else {
+        return Err(Refusal::NotPlayable);
+    };
+    if !is_calibration(cal) {
+        return Err(Refusal::BadCalibration);
     }
+    if !is_elapsed(elapsed) {
+        return Err(Refusal::BadElapsed);
+    }
+    Ok(drives(m, elapsed as u32, cal))
 }
 
 // ---- by C's numbers
 
 // The calibration of two gains' bits, whatever bits they are.
+// (No `From`: `Calibration` is another crate's, and a pair of numbers is nobody's.)
 fn calibration_of(floor: u32, ceiling: u32) -> Calibration
     ensures { result ≡ calibration_of floor ceiling }
 {
     Calibration {
-        floor: motion::float_of(floor),
-        ceiling: motion::float_of(ceiling),
+        floor: f32_from_bits_with_nan(floor),
+        ceiling: f32_from_bits_with_nan(ceiling),
     }
-}
-
-// A refusal's time left and drive into the lent numbers.
-fn refuse(outcome: u32, left: &mut i64, drive: &mut u32) -> u32
-    ensures { IsPlayed (refused_with outcome) result left.new drive.new }
-{
-    *left = 0;
-    *drive = 0;
-    outcome
 }
 
 // An answer's time left and drive into the lent numbers, and its outcome.
-fn tell(p: Played, left: &mut i64, drive: &mut u32) -> u32
-    ensures { IsPlayed (result_of p) result left.new drive.new }
+// (The outcome is a number, since C is told it.)
+fn tell(answer: Result<Drives, Refusal>, left: &mut i64, drive: &mut u32) -> u32
+    ensures { IsPlayed (result_of answer) result left.new drive.new }
 {
-    match p {
-        Played::Drives(time, gain) => {
-            *left = time;
-            *drive = motion::bits_of(gain);
-            kinds::DONE
-        }
-        Played::NotPlayable => refuse(kinds::NOT_PLAYABLE, left, drive),
-        Played::BadCalibration => refuse(kinds::BAD_CALIBRATION, left, drive),
-        Played::BadElapsed => refuse(kinds::BAD_ELAPSED, left, drive),
-    }
+    let given = answer.unwrap_or(NOTHING);
+    *left = given.left;
+    *drive = f32_to_bits_with_nan(given.drive);
+    kinds::outcome_of(answer)
 }
 
 // Plays a command's 16 bytes with a calibration given by its gains' bits: the time left and the drive's bits go into the lent numbers, 0 and +0 with a refusal.
+// So many numbers, and a number for the outcome, since C calls this (`kritnamon_play`).
 pub fn play_numbers(
     bytes: &[u8],
     elapsed: i64,

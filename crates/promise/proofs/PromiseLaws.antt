@@ -10,7 +10,7 @@ use lib.ListN.{length, take, drop, replicate}
 use lib.Seq.{sets}
 use Rattle.kinds.specs.Packed.{placed, packed}
 use Rattle.kinds.specs.Sizes.{Who, limit, row_size}
-use Rattle.kinds.proofs.PackedLaws.{Parts, parts_back, placed_none}
+use Rattle.kinds.proofs.PackedLaws.{Parts, parts_back}
 use Rattle.kinds.proofs.SizesLaws.{room_placed}
 use Rattle.state.specs.declared.Head.{Head}
 use Rattle.state.specs.State.{State}
@@ -22,14 +22,18 @@ use Rattle.state.specs.Table.{rows_of}
 use Rattle.state.proofs.LegalLaws.{Held, legal_held}
 use Rattle.state.proofs.ImageLaws.{image_head, legal_length, read_state_image, read_state_sound, state_in_image}
 use Rattle.state.proofs.ImageWrites.{image_headed, image_put, image_clear}
-use Rattle.rules.specs.Outcome.{Next, done, goes, bad_message}
-use Rattle.rules.specs.Step.{Call, Answer, over, written, answer, step_of}
+use Rattle.kinds.specs.declared.Refusal.{Refusal}
+use Rattle.kinds.specs.Refusal.{number_of}
+use Rattle.std.specs.Prelude.{Ok, Err}
+use lib.Dec.{eqb}
+use Rattle.rules.specs.Outcome.{Next, done, goes, refuses}
+use Rattle.rules.specs.Step.{Call, Answer, step_of}
 use Rattle.rules.proofs.Theorems.{call_comes_to_outcome}
 use Rattle.rules.proofs.LegalLaws.{IsWho, is_who}
-use Rattle.promise.specs.Promise.{Answers, Ready, left_by, Gives, Hears, Quiet, is_effect, ruled_by, said_by, Ruled}
+use Rattle.promise.specs.Promise.{Answers, Ready, left_by, Quiet, is_effect, ruled_by, said_by, Ruled}
 use Rattle.rules.specs.Receive.{Effect, idle, effect}
 use Rattle.message.specs.Message.{Message}
-use Rattle.message.proofs.PlaceLaws.{place_with_one, place_with_most, no_place}
+use Rattle.message.proofs.PlaceLaws.{place_with_one, place_with_most}
 use Rattle.rules.proofs.Fair.{Fine, idles, does}
 
 -- ---- no second answer
@@ -139,41 +143,14 @@ module _ (w : Who) (l : List ℕ) (r : Ready w l) where
 -- ---- what an event returns and leaves
 
 -- An event that takes effect and writes nothing.
-pub done_quiet : {n : Next} (t : State) (l l' : List ℕ) → n ≡ goes t none → l' ≡ image t → Quiet n l done l'
+pub done_quiet : {n : Next} (t : State) (l l' : List ℕ) → n ≡ goes t none → l' ≡ image t → Quiet n l (Ok tt) l'
 unfolding left_by
-done_quiet t l l' e h = rw e (record { returned = refl; silent = refl; state_left = h })
+done_quiet t l l' e h = rw e (record { outcome = refl; silent = refl; state_left = h })
 
--- What is given with an outcome that has no place, as what is heard.
-pub gives_hears :
-    (n : Next) → (n.outcome ≡ bad_message → ⊥) → {input l out : List ℕ} {r : ℕ} {l' out' : List ℕ} → Gives n l out r l' out'
-    → Hears n input l out r l' out'
-gives_hears n other g =
-    record {
-      place = 0;
-      place_is = no_place other;
-      returned = g.returned ∙ ap (λ (x : ℕ). packed x (length (written n.message))) (sym (placed_none n.outcome));
-      state_left = g.state_left;
-      output_left = g.output_left;
-    }
-
-module _ (c : Call) (n : Next) where
-  -- What a received text gives is what the answer says.
-  pub hears_answers : {r : ℕ} {l out : List ℕ} → Hears n c.input c.state c.output r l out → Answers (answer c n) c.input r l out
-  unfolding answer left_by
-  hears_answers g =
-      record { place = g.place; place_is = g.place_is; returned = g.returned; state_left = g.state_left; output_left = g.output_left }
-
-  module _ (other : n.outcome ≡ bad_message → ⊥) where
-    -- What an event gives is what the answer says.
-    pub gives_answers : {r : ℕ} {l out : List ℕ} → Gives n c.state c.output r l out → Answers (answer c n) c.input r l out
-    gives_answers g = hears_answers (gives_hears n other g)
-
-    -- So for an event that writes nothing: the output stays.
-    pub quiet_answers : {r : ℕ} {l : List ℕ} → Quiet n c.state r l → Answers (answer c n) c.input r l c.output
-    unfolding left_by written over
-    quiet_answers q =
-        let w : length (written n.message) ≡ 0 = rw q.silent in
-        gives_answers (record { returned = omega (arith, q.returned, w); state_left = q.state_left; output_left = rw q.silent })
+-- One that is refused leaves every byte.
+pub refused_quiet : {n : Next} (s : State) (l : List ℕ) (e : Refusal) → eqb (number_of e) done ≡ false → n ≡ refuses s (number_of e) → Quiet n l (Err e) l
+unfolding left_by
+refused_quiet s l e other is = rw is (record { outcome = refl; silent = refl; state_left = rw other })
 
 -- ---- effects
 

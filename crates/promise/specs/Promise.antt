@@ -1,25 +1,22 @@
 -- What is promised of a call of the step, and of its parts: what is returned, and what the lent bytes hold then. Assumes nothing.
-use Rattle.std.specs.Prelude.{ℕ, ◌≤◌, ◌<◌, ◌≡◌, Bool, true, false, cond, List, eqb, length}
+use Rattle.std.specs.Prelude.{ℕ, ◌≤◌, ◌<◌, ◌≡◌, Bool, true, false, cond, List, Result, Ok, Err, eqb, length}
 use Rattle.std.proofs.Math.Option.{Option, none, some}
 use Rattle.kinds.specs.Sizes.{Who, is_size, is_hub, term_most, limit}
 use Rattle.command.specs.Proposal.{is_proposal}
+use Rattle.command.specs.Entry.{Entry}
 use Rattle.message.specs.Message.{Message, vote_yes, append, append_yes}
 use Rattle.message.specs.Legal.{legal_body}
 use Rattle.message.specs.Place.{PlaceWith}
-use Rattle.message.specs.Walk.{entries_from, Lie}
 use Rattle.state.specs.declared.Head.{Head}
 use Rattle.state.specs.Image.{image, state_in, read_state}
 use Rattle.state.specs.Head.{head_in}
 use Rattle.rules.specs.Outcome.{Next, done}
 use Rattle.rules.specs.Receive.{Effect, idle, effect, contradicts}
 use Rattle.rules.specs.Step.{Call, Answer, over, written}
-use Rattle.promise.specs.declared.Caller.{Caller}
 use Rattle.kinds.specs.Role.{as_leader}
-use Rattle.kinds.specs.Packed.{placed, packed}
-
--- The group's size and the own number, as the code has them.
-abbrev pub who_in : Caller → Who
-who_in g = record { size = g.size; own = g.own.0 }
+use Rattle.kinds.specs.Packed.{half, placed, packed}
+use Rattle.kinds.specs.Refusal.{outcome_of}
+use Rattle.kinds.specs.declared.Refusal.{Refusal}
 
 -- ---- the whole call
 
@@ -78,23 +75,22 @@ pub record Raises (w : Who) (h : Head) (t : ℕ) (l : List ℕ) : Type 0 where
 unfoldable pub left_by : List ℕ → Next → List ℕ
 left_by l n = cond (eqb n.outcome done) (image n.state) l
 
--- What an event that may write a message returns and leaves.
-pub record Gives (n : Next) (l out : List ℕ) (r : ℕ) (l' out' : List ℕ) : Type 0 where
-  pub returned : r ≡ packed n.outcome (length (written n.message))
+-- How many bytes or places an answer tells; a refusal tells none.
+abbrev pub many_of : Result ℕ Refusal → ℕ
+many_of (Ok n) = n
+many_of (Err r) = 0
+
+-- What an event that may write a message answers and leaves. The bytes fit the one number that C is told.
+pub record Gives (n : Next) (l out : List ℕ) (r : Result ℕ Refusal) (l' out' : List ℕ) : Type 0 where
+  pub outcome : outcome_of r ≡ n.outcome
+  pub bytes : many_of r ≡ length (written n.message)
+  pub bytes_fit : many_of r < half
   pub state_left : l' ≡ left_by l n
   pub output_left : out' ≡ over (written n.message) out
 
--- What the event receive returns and leaves: the same, with the place of the first wrong byte of a text that is no message.
-pub record Hears (n : Next) (input l out : List ℕ) (r : ℕ) (l' out' : List ℕ) : Type 0 where
-  pub place : ℕ
-  pub place_is : PlaceWith n.outcome input place
-  pub returned : r ≡ packed (placed n.outcome place) (length (written n.message))
-  pub state_left : l' ≡ left_by l n
-  pub output_left : out' ≡ over (written n.message) out
-
--- What an event that writes no message returns and leaves.
-pub record Quiet (n : Next) (l : List ℕ) (r : ℕ) (l' : List ℕ) : Type 0 where
-  pub returned : r ≡ n.outcome
+-- What an event that writes no message answers and leaves.
+pub record Quiet (n : Next) (l : List ℕ) (r : Result (Unit {0}) Refusal) (l' : List ℕ) : Type 0 where
+  pub outcome : outcome_of r ≡ n.outcome
   pub silent : n.message ≡ none
   pub state_left : l' ≡ left_by l n
 
@@ -108,23 +104,20 @@ pub record HearsEnd (w : Who) (l : List ℕ) (from end : ℕ) : Type 0 where
   pub other : from ≡ w.own → ⊥
   pub agrees : contradicts (state_in l) (append_yes end) ≡ false
 
--- What holds where a vote-yes is heard: it comes from another hub of the group, is legal at the hub's term, and does not contradict; its entry lines
--- stand in s.
-pub record HearsYes (w : Who) (l : List ℕ) (from last ballot count : ℕ) (s : List ℕ) : Type 0 where
+-- What holds where a vote-yes is heard: it comes from another hub of the group, is legal at the hub's term, and does not contradict.
+pub record HearsYes (w : Who) (l : List ℕ) (from last ballot : ℕ) (entries : List Entry) : Type 0 where
   pub ready : Ready w l
   pub first : 1 ≤ from
   pub within : from ≤ w.size
   pub other : from ≡ w.own → ⊥
-  pub lie : Lie count s
-  pub legal : legal_body (state_in l).kept.term (vote_yes last ballot (entries_from count s)) ≡ true
-  pub agrees : contradicts (state_in l) (vote_yes last ballot (entries_from count s)) ≡ false
+  pub legal : legal_body (state_in l).kept.term (vote_yes last ballot entries) ≡ true
+  pub agrees : contradicts (state_in l) (vote_yes last ballot entries) ≡ false
 
--- What holds where an append is heard: it is legal at the hub's term, and the hub does not lead; its entry lines stand in s.
-pub record HearsAppend (w : Who) (l : List ℕ) (prev prevterm chosen count : ℕ) (s : List ℕ) : Type 0 where
+-- What holds where an append is heard: it is legal at the hub's term, and the hub does not lead.
+pub record HearsAppend (w : Who) (l : List ℕ) (prev prevterm chosen : ℕ) (entries : List Entry) : Type 0 where
   pub ready : Ready w l
-  pub lie : Lie count s
-  pub legal : legal_body (state_in l).kept.term (append prev prevterm chosen (entries_from count s)) ≡ true
-  pub agrees : contradicts (state_in l) (append prev prevterm chosen (entries_from count s)) ≡ false
+  pub legal : legal_body (state_in l).kept.term (append prev prevterm chosen entries) ≡ true
+  pub agrees : contradicts (state_in l) (append prev prevterm chosen entries) ≡ false
 
 -- Whether the rules do anything with a message.
 unfoldable pub is_effect : Effect → Bool

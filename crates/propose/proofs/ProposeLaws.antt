@@ -5,7 +5,7 @@ use mathlib.Core.Path.{◌≡◌, refl, sym, ◌∙◌, ap}
 use mathlib.Core.Bool.{true, false}
 use mathlib.Core.List.{List, [], ◌∷◌, ◌++◌, map, map-append, append-nil}
 use mathlib.Core.Option.{Option, none, some}
-use borrow.Author.Tests.{le-leb, lt-leb, ne_eqb}
+use borrow.Author.Tests.{le-leb, lt-leb}
 use lib.ListN.{length, take, drop, length-append, length-map, drop_of_length-le}
 use lib.Seq.{sets, take_all}
 use Rattle.kinds.specs.Role.{as_leader}
@@ -21,23 +21,19 @@ use Rattle.rows.specs.Rows.{bytes_of, Row, row_bytes, entry_row}
 use Rattle.state.specs.Image.{head_size, role_of, voters_of, gathered_of, confirmed_of, image, state_in}
 use Rattle.state.specs.Head.{head_in, bytes_of_head, head_of}
 use Rattle.state.specs.Table.{rows_of}
-use Rattle.rules.specs.Outcome.{Next, done, goes, refuses, wrong_role, bad_command, log_full}
+use Rattle.std.specs.Prelude.{Ok, Err}
+use Rattle.kinds.specs.declared.Refusal.TheVariants.{WrongRole, BadCommand, LogFull}
+use Rattle.rules.specs.Outcome.{Next, goes, refuses, wrong_role, bad_command, log_full}
 use Rattle.rules.specs.Events.{leads, with_entry, propose_leading, propose}
 use Rattle.rules.specs.Happens.{to_propose, happens, legal_at}
 use Rattle.rules.proofs.Theorems.{next_is_legal}
 use Rattle.rows.specs.declared.Words.{Words}
-use Rattle.promise.specs.Promise.{Ready, Quiet, left_by}
+use Rattle.promise.specs.Promise.{Ready, Quiet}
 use Rattle.promise.specs.Heads.{grown}
 use Rattle.rows.specs.Words.{command_in, words_at, row_words}
-use Rattle.promise.proofs.PromiseLaws.{ready_legal, ready_head, ready_role, ready_term, ready_length, ready_put, done_quiet}
+use Rattle.promise.proofs.PromiseLaws.{ready_legal, ready_head, ready_role, ready_term, ready_length, ready_put, done_quiet, refused_quiet}
 use Rattle.rows.proofs.WordsLaws.{command_in_at, row_words_lem}
 use Rattle.promise.proofs.HeadsLaws.{places_set}
-
--- A refusal leaves every byte.
-refused_quiet : {n : Next} (s : State) (l : List ℕ) (k : ℕ) → n ≡ refuses s k → (k ≡ done → ⊥) → Quiet n l k l
-unfolding left_by
-refused_quiet s l k e h =
-    rw e (record { returned = refl; silent = refl; state_left = rw (ne_eqb k done h) })
 
 -- ---- outcomes
 
@@ -125,29 +121,27 @@ module _ (w : Who) (l : List ℕ) (r : Ready w l) where
     leading role = propose_leads w (state_in l).kept (state_in l).lost (read_proposal bytes) (sym here ∙ role)
 
     -- Outcome 8.
-    pub proposed_wrong_role : (h.role ≡ as_leader → ⊥) → Quiet (propose w (state_in l) (read_proposal bytes)) l wrong_role l
+    pub proposed_wrong_role : (h.role ≡ as_leader → ⊥) → Quiet (propose w (state_in l) (read_proposal bytes)) l (Err WrongRole) l
     proposed_wrong_role role =
-        refused_quiet (state_in l) l wrong_role (propose_role w (state_in l).kept (state_in l).lost (read_proposal bytes) (λ f. role (here ∙ f)))
-        (λ z. omega arith)
+        refused_quiet (state_in l) l WrongRole refl (propose_role w (state_in l).kept (state_in l).lost (read_proposal bytes) (λ f. role (here ∙ f)))
 
     -- Outcome 10.
-    pub proposed_bad : h.role ≡ as_leader → is_proposal bytes ≡ false → Quiet (propose w (state_in l) (read_proposal bytes)) l bad_command l
+    pub proposed_bad : h.role ≡ as_leader → is_proposal bytes ≡ false → Quiet (propose w (state_in l) (read_proposal bytes)) l (Err BadCommand) l
     proposed_bad role bad =
-        refused_quiet (state_in l) l bad_command
-        (leading role ∙ rw (read_proposal_none bytes bad) (leading_bad w (state_in l) (confirmed_of (state_in l).lost))) (λ z. omega arith)
+        refused_quiet (state_in l) l BadCommand refl
+        (leading role ∙ rw (read_proposal_none bytes bad) (leading_bad w (state_in l) (confirmed_of (state_in l).lost)))
 
     -- Outcome 11.
-    pub proposed_full : h.role ≡ as_leader → is_proposal bytes ≡ true → limit ≤ h.length.0 → Quiet (propose w (state_in l) (read_proposal bytes)) l log_full l
+    pub proposed_full : h.role ≡ as_leader → is_proposal bytes ≡ true → limit ≤ h.length.0 → Quiet (propose w (state_in l) (read_proposal bytes)) l (Err LogFull) l
     proposed_full role proposal full =
-        refused_quiet (state_in l) l log_full
+        refused_quiet (state_in l) l LogFull refl
         (leading role ∙ rw (read_proposal_some bytes proposal)
         (leading_full w (state_in l) (confirmed_of (state_in l).lost) (command_of bytes) (omega (arith, long))))
-        (λ z. omega arith)
 
     -- Outcome 0.
     pub proposed_done :
         h.role ≡ as_leader → is_proposal bytes ≡ true → h.length.0 < limit → {l' : List ℕ} → l' ≡ image (propose w (state_in l) (read_proposal bytes)).state
-        → Quiet (propose w (state_in l) (read_proposal bytes)) l done l'
+        → Quiet (propose w (state_in l) (read_proposal bytes)) l (Ok tt) l'
     proposed_done role proposal room left =
         let s = state_in l in
         let t = leads w (with_entry s.kept (command_of bytes)) (confirmed_of s.lost) in

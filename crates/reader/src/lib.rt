@@ -1,110 +1,73 @@
 // Reading messages from a lent text, where their entries stay, as rules R27 to R31 have it; of a text that is none, where it is wrong (rule R46).
 #![tactic(auto)]
 
-ghost use Rattle.std.specs.Prelude.{◌≤◌, length, ◌≡◌};
+ghost use Rattle.std.specs.Prelude.{◌≤◌, ◌<◌, length};
 ghost use Rattle.message.specs.Text.{read, part_from, part_to};
-ghost use Rattle.reader.specs.Answer.{ended_at, entered_at, Opened, Reads};
+ghost use Rattle.entries.specs.Found.{FoundEntries};
+ghost use Rattle.reader.specs.Answer.{Reads};
 ghost use Rattle.reader.specs.Part.{IsPart, IsRest};
 
-use lines::FieldsAt;
 use message::Fields;
-use seek::TextAt;
+use seek::Wrong;
+use span::Span;
 
-// What reading a message finds: its fields, and where its entry lines begin. Refused is outcome 4, with the place of the first wrong byte.
+// A message that was read: its fields, and where its entry lines begin. A text that is none is refused with outcome 4, and the place of its first wrong byte.
+// (A place, and no slice: C is given it (docs/FORMS.md). `lines_of` cuts the text there.)
 #[derive(Clone, Copy)]
-pub enum Read {
-    Message { fields: Fields, entries: usize },
-    Refused { place: usize },
+pub struct Read {
+    pub fields: Fields,
+    pub entries: usize,
 }
 
-// A message whose lines end at a place; refused there, if more text follows.
-fn ended(s: &[u8], fields: Fields, entries: usize, end: usize) -> Read
-    ensures { result ≡ ended_at (length s.now) fields entries end }
+// The place past the entry lines that follow; or that of their first wrong byte.
+fn entries_end(s: &[u8], next: usize, span: Span) -> Result<usize, Wrong>
+    requires { (next ≤ length s.now) × (0 < span.count → span.terms.lo ≤ span.terms.hi) }
+    ensures { FoundEntries s.now next span.count span.terms.lo span.terms.hi result }
 {
-    if end != s.len() {
-        return Read::Refused { place: end };
+    match span.count {
+        // Most messages have no entries: nothing is called for them. Most others have one; and two calls of `entries_in` leave its loop by itself (D57).
+        0 => Ok(next),
+        1 => entries::entries_in(s, next, 1, span.terms),
+        count => entries::entries_in(s, next, count, span.terms),
     }
-    Read::Message { fields, entries }
-}
-
-// A message whose entry lines were found; or refused where they are wrong.
-fn entered(s: &[u8], fields: Fields, entries: usize, found: TextAt) -> Read
-    ensures { result ≡ entered_at (length s.now) fields entries found }
-{
-    match found {
-        TextAt::Is { next } => ended(s, fields, entries, next),
-        TextAt::Wrong { place } => Read::Refused { place },
-    }
-}
-
-// Reads on behind the lines before the entries, which say these fields and end at `next`.
-fn read_entries(s: &[u8], fields: Fields, next: usize) -> Read
-    requires { Opened s.now fields next }
-    ensures { Reads s.now result }
-{
-    let span = span::span_of(fields);
-    // Most messages have no entries: nothing is called for them. Most others have one; and two calls of `entries_in` leave its loop by itself (D57).
-    if span.count == 0 {
-        return ended(s, fields, next, next);
-    }
-    if span.count == 1 {
-        return entered(
-            s,
-            fields,
-            next,
-            entries::entries_in(s, next, 1, span.low, span.high),
-        );
-    }
-    entered(
-        s,
-        fields,
-        next,
-        entries::entries_in(s, next, span.count, span.low, span.high),
-    )
 }
 
 // Reads a message: its fields, and where its entry lines begin in the text. They go to the text's end. The place of a wrong byte is looked for only once
 // the text is refused.
-pub fn read_message(s: &[u8]) -> Read
+pub fn read_message(s: &[u8]) -> Result<Read, Wrong>
     ensures { Reads s.now result }
 {
     let room = kinds::text_room();
     if room < s.len() {
-        return Read::Refused { place: room };
+        return Err(Wrong { place: room });
     }
-    match lines::opening_in(s) {
-        FieldsAt::Are { fields, next } => read_entries(s, fields, next),
-        FieldsAt::Wrong { place } => Read::Refused { place },
+    let opening = lines::opening_in(s)?;
+    let end = entries_end(s, opening.next, span::span_of(opening.fields))?;
+    if end != s.len() {
+        return Err(Wrong { place: end });
     }
+    Ok(Read {
+        fields: opening.fields,
+        entries: opening.next,
+    })
 }
 
 // ---- the part of a text that holds the entry lines
 
-// The bytes of s from a to e, where they lie.
-fn part<'a>(s: &'a [u8], a: usize, e: usize) -> &'a [u8]
-    requires { (a ≤ e) × (e ≤ length s.now) }
-    ensures { IsPart s.entry a e result }
-{
-    &s[a..e]
-}
-
 // The text from a place on, and no copy of it; from a place beyond the end, the empty part at the end.
-pub fn lines_of<'a>(s: &'a [u8], entries: usize) -> &'a [u8]
+pub fn lines_of(s: &[u8], entries: usize) -> &[u8]
     ensures { IsRest s.entry entries result }
 {
-    if s.len() < entries {
-        return part(s, s.len(), s.len());
-    }
-    part(s, entries, s.len())
+    &s[entries.min(s.len())..]
 }
 
 // The part of the text that holds the entry lines, and no copy of it: empty at the end of the text without entry lines, and empty at
 // its start on a refusal.
-pub fn entry_lines<'a>(s: &'a [u8]) -> &'a [u8]
+pub fn entry_lines(s: &[u8]) -> &[u8]
     ensures { IsPart s.entry (part_from s.now (read s.now)) (part_to s.now (read s.now)) result }
 {
-    let Read::Message { fields: _, entries } = read_message(s) else {
-        return part(s, 0, 0);
-    };
-    lines_of(s, entries)
+    match read_message(s) {
+        Ok(read) => lines_of(s, read.entries),
+        Err(_) => &s[..0],
+    }
 }

@@ -17,8 +17,9 @@ use Rattle.message.proofs.ReadLaws.{read_sound}
 use Rattle.entries.proofs.WalkLaws.{part_follow}
 use Rattle.reader.specs.Answer.{read_as, Reads}
 use Rattle.reader.specs.Part.{IsRest}
+use Rattle.seek.specs.declared.Wrong.{Wrong}
+use Rattle.std.specs.Prelude.{Result, Ok}
 use Rattle.reader.specs.declared.Read.{Read}
-use Rattle.reader.specs.declared.Read.TheVariants.{Message as Read-as-Message}
 use Rattle.reader.proofs.AnswerLaws.{part_within, refused_never}
 use Rattle.reader.proofs.PartLaws.{rest_bytes}
 use Rattle.refuse.specs.Received.{message_heard}
@@ -46,21 +47,22 @@ message_stands input m h =
 
 -- The reader found fields, and where the entry lines begin.
 fields_stand :
-    (input : List ℕ) (p : ℕ) (f : Fields) (at : ℕ) → read_as input p (read input) ≡ Read-as-Message f at → {lines : List ℕ} → lines ≡ drop at input
-    → Stands input f lines
+    (input : List ℕ) (p : ℕ) {found : Read} → read_as input p (read input) ≡ Ok found → {lines : List ℕ} → lines ≡ drop found.entries input
+    → Stands input found.fields lines
 unfolding read_as
-fields_stand input p f at e {lines} is = by (read input) refl e
+fields_stand input p {found} e {lines} is = by (read input) refl e
   where
-    by : (o : Option Message) → read input ≡ o → read_as input p o ≡ Read-as-Message f at → Stands input f lines
+    by : (o : Option Message) → read input ≡ o → read_as input p o ≡ Ok found → Stands input found.fields lines
     by none q e = absurd (refused_never e)
     by (some m) q e =
-        let f= : fields_of m ≡ f = cc in
-        let at= : part_from input (some m) ≡ at = cc in
+        let f= : fields_of m ≡ found.fields = cc in
+        let at= : part_from input (some m) ≡ found.entries = cc in
         subst (λ (x : Fields). Stands input x lines) f=
         (subst (Stands input (fields_of m)) (ap (λ (n : ℕ). drop n input) at= ∙ sym is) (message_stands input m q))
 
 -- The reader's part from there on holds the entry lines.
 pub lines_stand :
-    (s r : Bor (List ℕ)) (f : Fields) (at : ℕ) {a : Read} → Reads s.now a → a ≡ Read-as-Message f at → IsRest s at r → Stands s.now f r.now
-lines_stand s r f at {a} told is rest =
-    fields_stand s.now told.place f at (sym told.answer ∙ is) (rest_bytes s r at (part_within s.now told.place (read s.now) a told.answer f at is) rest)
+    (s r : Bor (List ℕ)) {a : Result Read Wrong} {found : Read} → Reads s.now a → a ≡ Ok found → IsRest s found.entries r → Stands s.now found.fields r.now
+lines_stand s r {a} {found} told is rest =
+    fields_stand s.now told.place (sym told.answer ∙ is)
+    (rest_bytes s r found.entries (part_within s.now told.place (read s.now) a told.answer is) rest)

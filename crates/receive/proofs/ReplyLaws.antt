@@ -2,13 +2,14 @@
 use Prim.Native.Nat.{ℕ}
 use mathlib.Core.Path.{◌≡◌, refl}
 use mathlib.Core.List.{List}
+use mathlib.Core.Logic.{◌⊎◌, inl, inr}
 use mathlib.Core.Option.{Option, none, some}
 use Rattle.kinds.specs.declared.Place.{Place}
 use Rattle.kinds.specs.declared.Term.{Term}
 use Rattle.kinds.specs.Sizes.{Who}
 use Rattle.message.specs.Message.{Message, vote_no, append_no}
 use Rattle.message.specs.declared.Body.{Body}
-use Rattle.message.specs.declared.Body.TheVariants.{VoteRequest, Append}
+use Rattle.message.specs.declared.Body.TheVariants.{VoteRequest, VoteYes, VoteNo, Append, AppendYes, AppendNo}
 use Rattle.state.specs.State.{State}
 use Rattle.rules.specs.Events.{len, says}
 use Rattle.rules.specs.Receive.{stale_reply}
@@ -40,3 +41,14 @@ pub stale_append :
     → b ≡ Append prev prevterm chosen count → stale_reply w s from (body_in b t) ≡ some (says w s from (append_no (len s)))
 unfolding stale_reply
 stale_append w s from t e = rw e
+
+-- There is none to any other message.
+pub no_reply :
+    (w : Who) (s : State) (from : ℕ) {b : Body} (t : List ℕ)
+    → ((last : Place) × (ballot : Term) × (count : ℕ) × (b ≡ VoteYes last ballot count)) ⊎ (b ≡ VoteNo) ⊎ ((end : Place) × (b ≡ AppendYes end)) ⊎ ((n : Place) × (b ≡ AppendNo n))
+    → stale_reply w s from (body_in b t) ≡ none
+unfolding stale_reply
+no_reply w s from t (inl e) = rw e.3
+no_reply w s from t (inr (inl e)) = rw e
+no_reply w s from t (inr (inr (inl e))) = rw e.1
+no_reply w s from t (inr (inr (inr e))) = rw e.1

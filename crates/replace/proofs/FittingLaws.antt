@@ -1,18 +1,17 @@
 -- Laws of an append at a follower: what the code's tests say, and what its writes make of the bytes. Assumes nothing.
-use Prim.Native.Nat.{ℕ, ◌+◌, ◌*◌, ◌≤◌, max}
+use Prim.Native.Nat.{ℕ, ◌+◌, ◌*◌, ◌<◌, ◌≤◌, max}
 use native.Mathlib.Omega.{arith}
-use mathlib.Core.Path.{◌≡◌, sym, ◌∙◌, ap}
-use mathlib.Core.Bool.{Bool, true, false, not, ◌&&◌, ◌||◌}
+use mathlib.Core.Path.{◌≡◌, refl, sym, ◌∙◌, ap}
+use mathlib.Core.Bool.{Bool, true, false, ◌&&◌, ◌||◌}
 use mathlib.Core.List.{List, ◌++◌, map}
-use borrow.Author.Tests.{eqb-true, leb-true, leb-false}
-use lib.Dec.{leb, ltb, eqb}
+use borrow.Author.Tests.{eqb-true, eq-eqb, ne_eqb, leb-true, leb-false, le-leb, lt-leb}
+use lib.Dec.{leb, eqb}
 use lib.ListN.{length, take, drop, length-append, length-take, length-map}
 use lib.Seq.{sets}
 use Rattle.kinds.specs.declared.Place.{Place}
 use Rattle.kinds.specs.Of.{place}
 use Rattle.kinds.specs.Sizes.{Who, limit, row_size}
 use Rattle.command.specs.Entry.{Entry}
-use Rattle.message.specs.Walk.{entries_from}
 use Rattle.state.specs.declared.Head.{Head}
 use Rattle.state.specs.State.{Kept, Lost, follower, State}
 use Rattle.state.specs.Legal.{legal_state}
@@ -24,7 +23,7 @@ use Rattle.state.proofs.LegalLaws.{rows_of_length}
 use Rattle.rows.proofs.ListLaws.{bytes_of_map}
 use Rattle.rules.specs.Events.{term_at}
 use Rattle.rules.specs.Receive.{fits, replaced, taken}
-use Rattle.kinds.proofs.BoolLaws.{and_first, and_second, and_either, or_either, not_both, not_below}
+use Rattle.kinds.proofs.BoolLaws.{and_first, and_second, and_either, or_either, not_both}
 use Rattle.message.proofs.LegalLaws.{append_is}
 use Rattle.promise.specs.Promise.{Ready}
 use Rattle.promise.specs.Heads.{taking}
@@ -63,12 +62,9 @@ module _ (k : Kept) (prev prevterm end : ℕ) (fit : fits k prev prevterm end �
 
 -- ---- the bytes
 
-module _ {w : Who} {h : Head} {l : List ℕ} {prev prevterm chosen count : ℕ} {s : List ℕ} (t : HearsTaking w h l prev prevterm chosen count s) where
+module _ {w : Who} {h : Head} {l : List ℕ} {prev prevterm chosen : ℕ} {es : List Entry} (t : HearsTaking w h l prev prevterm chosen es) where
   abbrev k : Kept
   k = (state_in l).kept
-
-  abbrev es : List Entry
-  es = entries_from count s
 
   abbrev before : State
   before = record { kept = k; lost = follower }
@@ -79,30 +75,39 @@ module _ {w : Who} {h : Head} {l : List ℕ} {prev prevterm chosen count : ℕ} 
   ready : Ready w l
   ready = t.tested.ready
 
-  counted : length es ≡ count
-  counted = t.lie.count_is
-
-  -- Prev+count is within the limit.
-  pub end_within : prev + count ≤ limit
-  end_within = omega (arith, (append_is k.term prev prevterm chosen es t.legal).within, counted)
+  -- Its end is within the limit.
+  pub end_within : prev + length es ≤ limit
+  end_within = (append_is k.term prev prevterm chosen es t.legal).within
 
   -- The rows of the message's entries lie within the bytes.
-  pub rows_inside : head_size + prev * row_size + count * row_size ≤ length l
+  pub rows_inside : head_size + prev * row_size + length es * row_size ≤ length l
   unfolding state_size
   rows_inside = omega (arith, ready_size w l ready, end_within)
 
-  -- The code's tests: whether the append fits,
+  -- The code's test of whether the append fits.
   pub fits_test :
-      {b : Bool} {p : ℕ} {end : Place} → p ≡ prev → end ≡ place (p + count) → b ≡ fits k prev prevterm end.0
-      → b ≡ fits k prev prevterm (prev + count)
-  fits_test ep eend eb = rw (eb, eend, ep)
+      {b : Bool} {end : Place} → end ≡ place (prev + length es) → b ≡ fits k prev prevterm end.0 → b ≡ fits k prev prevterm (prev + length es)
+  fits_test eend eb = rw (eb, eend)
 
-  -- and whether the log stays.
-  pub stays_test :
-      {b d : Bool} {p : ℕ} {end : Place} → p ≡ prev → end ≡ place (p + count) → b ≡ eqb h.ballot.0 h.term.0 → d ≡ ltb h.length.0 end.0
-      → (b && not d) ≡ (eqb k.ballot k.term && leb (prev + length es) (length k.log))
-  stays_test ep eend eb ed =
-      rw (eb, ed, eend, ep, not_below, tested_ballot w h l t.tested, tested_term w h l t.tested, tested_length w h l t.tested, counted)
+  -- Whether the log stays, by the head: its ballot is its term, and the message's entries go no further than the log.
+  abbrev stays : Bool
+  stays = eqb k.ballot k.term && leb (prev + length es) (length k.log)
+
+  of_head : stays ≡ (eqb h.ballot.0 h.term.0 && leb (prev + length es) h.length.0)
+  of_head = rw (tested_ballot w h l t.tested, tested_term w h l t.tested, tested_length w h l t.tested)
+
+  pub log_stays : h.ballot.0 ≡ h.term.0 → prev + length es ≤ h.length.0 → stays ≡ true
+  log_stays own inside = of_head ∙ rw (eq-eqb _ _ own, le-leb _ _ inside)
+
+  pub log_older : (h.ballot.0 ≡ h.term.0 → ⊥) → stays ≡ false
+  log_older other = of_head ∙ rw (ne_eqb _ _ other)
+
+  pub log_shorter : h.length.0 < prev + length es → stays ≡ false
+  log_shorter beyond = of_head ∙ rw (lt-leb _ _ beyond) (either (eqb h.ballot.0 h.term.0))
+    where
+      either : (b : Bool) → (b && false) ≡ false
+      either true = refl
+      either false = refl
 
   state_is : state_in l ≡ before
   state_is = λ i. record { kept = k; lost = t.follows i }
@@ -110,18 +115,12 @@ module _ {w : Who} {h : Head} {l : List ℕ} {prev prevterm chosen count : ℕ} 
   head_is : h ≡ head_of k follower
   head_is = t.tested.head ∙ ready_head w l ready ∙ ap (λ (x : Lost). head_of k x) t.follows
 
-  fits_same : fits k prev prevterm (prev + length es) ≡ fits k prev prevterm (prev + count)
-  fits_same = ap (λ (n : ℕ). fits k prev prevterm (prev + n)) counted
-
   -- It does not fit: a follower stays as it is.
-  pub taken_not : fits k prev prevterm (prev + count) ≡ false → l ≡ image (taken_by (state_in l) prev prevterm chosen es)
+  pub taken_not : fits k prev prevterm (prev + length es) ≡ false → l ≡ image (taken_by (state_in l) prev prevterm chosen es)
   unfolding taken_by
-  taken_not misses = rw (fits_same ∙ misses) (sym (ready_image w l ready) ∙ ap image state_is)
+  taken_not misses = rw misses (sym (ready_image w l ready) ∙ ap image state_is)
 
-  module _ (yes : fits k prev prevterm (prev + count) ≡ true) where
-    fit : fits k prev prevterm (prev + length es) ≡ true
-    fit = fits_same ∙ yes
-
+  module _ (fit : fits k prev prevterm (prev + length es) ≡ true) where
     taken_is : taken_by (state_in l) prev prevterm chosen es ≡ after
     unfolding taken_by
     taken_is = rw fit
@@ -139,7 +138,7 @@ module _ {w : Who} {h : Head} {l : List ℕ} {prev prevterm chosen count : ℕ} 
 
     -- The log stays: only the head is written.
     pub taken_stays :
-        {most : Place} {f : Head} {l' : List ℕ} → (eqb k.ballot k.term && leb (prev + length es) (length k.log)) ≡ true
+        {most : Place} {f : Head} {l' : List ℕ} → stays ≡ true
         → most ≡ place (max h.chosen.0 chosen) → f ≡ taking h most h.length → l' ≡ sets l 0 (bytes_of_head f)
         → l' ≡ image (taken_by (state_in l) prev prevterm chosen es)
     unfolding head_of replaced
@@ -150,19 +149,19 @@ module _ {w : Who} {h : Head} {l : List ℕ} {prev prevterm chosen count : ℕ} 
 
     -- Entries after prev are replaced: their rows are written, then the head.
     pub taken_put :
-        {most end : Place} {f : Head} {at p : ℕ} {l1 l' : List ℕ} → (eqb k.ballot k.term && leb (prev + length es) (length k.log)) ≡ false
-        → most ≡ place (max h.chosen.0 chosen) → p ≡ prev → end ≡ place (p + count) → at ≡ head_size + prev * row_size
+        {most end : Place} {f : Head} {at : ℕ} {l1 l' : List ℕ} → stays ≡ false → most ≡ place (max h.chosen.0 chosen)
+        → end ≡ place (prev + length es) → at ≡ head_size + prev * row_size
         → l1 ≡ sets l at (bytes_of log_row es) → f ≡ taking h most end → l' ≡ sets l1 0 (bytes_of_head f)
         → l' ≡ image (taken_by (state_in l) prev prevterm chosen es)
     unfolding replaced
-    taken_put test em ep eend eat e1 ef el =
+    taken_put test em eend eat e1 ef el =
         let new : List Row = map entry_row es in
         let inside = fits_inside k prev prevterm (prev + length es) fit in
-        let size : prev + count ≡ length (replaced k prev es) =
-        rw test (omega (arith, length-append (take prev k.log) es, length-take prev k.log, counted)) in
+        let size : prev + length es ≡ length (replaced k prev es) =
+        rw test (omega (arith, length-append (take prev k.log) es, length-take prev k.log)) in
         let m = length-map es entry_row in
         let rows : rows_of after ≡ take prev (rows_of (state_in l)) ++ (new ++ drop (prev + length new) (rows_of (state_in l))) =
         rw state_is (replaced_rows k prev chosen es test (fits_to_end k prev prevterm (prev + length es) fit test)) in
-        let head = taken_head em (eend ∙ ap (λ (n : ℕ). place (n + count)) ep ∙ ap place size) ef in
+        let head = taken_head em (eend ∙ ap place size) ef in
         rw (taken_is, el, head, e1, eat, ← bytes_of_map row_bytes entry_row es)
-        (ready_put w l ready after after_legal prev new (omega (arith, rows_of_length (state_in l))) (omega (arith, end_within, counted)) rows)
+        (ready_put w l ready after after_legal prev new (omega (arith, rows_of_length (state_in l))) (omega (arith, end_within)) rows)

@@ -3,8 +3,9 @@ use Prim.Native.Nat.{ℕ, ◌+◌}
 use mathlib.Core.Path.{◌≡◌, sym, ◌∙◌, ap}
 use mathlib.Core.Bool.{Bool, true}
 use mathlib.Core.List.{List}
+use lib.ListN.{length}
 use Rattle.kinds.specs.Sizes.{Who}
-use Rattle.message.specs.Walk.{entries_from}
+use Rattle.command.specs.Entry.{Entry}
 use Rattle.state.specs.declared.Head.{Head}
 use Rattle.state.specs.State.{follower, State}
 use Rattle.state.specs.Legal.{legal_state}
@@ -58,20 +59,20 @@ module _ (w : Who) (l : List ℕ) (r : Ready w l) where
 -- ---- an append that it hears
 
 module _
-    {w : Who} {l : List ℕ} {prev prevterm chosen count : ℕ} {s : List ℕ} (a : HearsAppend w l prev prevterm chosen count s)
+    {w : Who} {l : List ℕ} {prev prevterm chosen : ℕ} {es : List Entry} (a : HearsAppend w l prev prevterm chosen es)
     {h : Head} {l1 : List ℕ} (f : Followed w l h l1)
   where
     kept_is : (state_in l1).kept ≡ (state_in l).kept
     kept_is = ap (λ (x : State). x.kept) f.state_is
 
     -- The follower hears the append.
-    pub follow_heard : HearsTaking w h l1 prev prevterm chosen count s
-    follow_heard = record { tested = f.tested; follows = ap (λ (x : State). x.lost) f.state_is; lie = a.lie; legal = rw kept_is a.legal }
+    pub follow_heard : HearsTaking w h l1 prev prevterm chosen es
+    follow_heard = record { tested = f.tested; follows = ap (λ (x : State). x.lost) f.state_is; legal = rw kept_is a.legal }
 
     -- What the follower answers and takes is what the hub has to that became it.
     pub follow_took :
         {b : Bool} {l2 : List ℕ}
-        → (b ≡ fits (state_in l1).kept prev prevterm (prev + count)) × (l2 ≡ image (taken_by (state_in l1) prev prevterm chosen (entries_from count s)))
-        → (b ≡ fits (state_in l).kept prev prevterm (prev + count)) × (l2 ≡ image (taken_by (state_in l) prev prevterm chosen (entries_from count s)))
+        → (b ≡ fits (state_in l1).kept prev prevterm (prev + length es)) × (l2 ≡ image (taken_by (state_in l1) prev prevterm chosen es))
+        → (b ≡ fits (state_in l).kept prev prevterm (prev + length es)) × (l2 ≡ image (taken_by (state_in l) prev prevterm chosen es))
     unfolding taken_by
     follow_took e = (e.0 ∙ rw kept_is, e.1 ∙ rw kept_is)

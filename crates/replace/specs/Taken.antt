@@ -4,7 +4,6 @@ use Rattle.kinds.specs.Sizes.{Who}
 use Rattle.command.specs.Entry.{Entry}
 use Rattle.message.specs.Message.{append}
 use Rattle.message.specs.Legal.{legal_body}
-use Rattle.message.specs.Walk.{entries_from, Lie}
 use Rattle.state.specs.declared.Head.{Head}
 use Rattle.state.specs.State.{follower, State}
 use Rattle.state.specs.Image.{state_in}
@@ -22,9 +21,8 @@ pub record Followed (w : Who) (l : List ℕ) (h : Head) (l' : List ℕ) : Type 0
   pub tested : Tested w h l'
   pub state_is : state_in l' ≡ record { kept = (state_in l).kept; lost = follower }
 
--- What holds where a follower with this head hears an append: it is legal at the hub's term, and its entry lines stand in s.
-pub record HearsTaking (w : Who) (h : Head) (l : List ℕ) (prev prevterm chosen count : ℕ) (s : List ℕ) : Type 0 where
+-- What holds where a follower with this head hears an append: it is legal at the hub's term.
+pub record HearsTaking (w : Who) (h : Head) (l : List ℕ) (prev prevterm chosen : ℕ) (entries : List Entry) : Type 0 where
   pub tested : Tested w h l
   pub follows : (state_in l).lost ≡ follower
-  pub lie : Lie count s
-  pub legal : legal_body (state_in l).kept.term (append prev prevterm chosen (entries_from count s)) ≡ true
+  pub legal : legal_body (state_in l).kept.term (append prev prevterm chosen entries) ≡ true

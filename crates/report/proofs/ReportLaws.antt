@@ -71,18 +71,18 @@ module _ (l out : List ℕ) (p : ℕ) where
     unfolding told
     refused e = rw (answered none e) (record { outcome_is = refl; output_is = refl })
 
-    -- Place 0.
-    pub reported_zero : p ≡ 0 → IsReport (report_of l p out) out_of_range out
-    unfolding reported_at
-    reported_zero z = refused (rw z refl)
-
     chosen_is : (head_in l).chosen.0 ≡ (kept_in l).chosen
     unfolding head_in kept_in
     chosen_is = refl
 
-    -- A place past what is chosen.
-    pub reported_past : (head_in l).chosen.0 < p → IsReport (report_of l p out) out_of_range out
-    reported_past above = refused (reported_at_past (kept_in l) p (omega (arith, chosen_is)))
+    -- Place 0, or one past what is chosen.
+    pub reported_outside : (1 ≤ p → p ≤ (head_in l).chosen.0 → ⊥) → IsReport (report_of l p out) out_of_range out
+    unfolding reported_at
+    reported_outside out = refused (not_there p out)
+      where
+        not_there : (p : ℕ) → (1 ≤ p → p ≤ (head_in l).chosen.0 → ⊥) → reported_at (kept_in l) p ≡ none
+        not_there zero out = refl
+        not_there (suc i) out = reported_at_past (kept_in l) (suc i) (omega (arith, chosen_is, out))
 
     chosen_within : (head_in l).chosen.0 ≤ (head_in l).length.0
     chosen_within = omega (arith, kept_length l o h, chosen_is, (legal_kept_is (kept_in l) (read_kept_sound l (kept_in l) (read_kept_some l h)).1).chosen)

@@ -2,90 +2,80 @@
 #![tactic(auto)]
 
 ghost use Rattle.std.specs.Prelude.{◌≡◌, ◌≤◌, length};
+ghost use Rattle.kinds.specs.Caller.{who_in};
 ghost use Rattle.state.specs.Image.{head_size};
 ghost use Rattle.state.specs.Head.{head_in, kept_head, follower_head, candidate_head, leader_head, role_head};
-ghost use Rattle.state.specs.Check.{who, checked_head};
+ghost use Rattle.state.specs.Check.{checked_head};
 
-use kinds::Hub;
+use kinds::Caller;
 use state::Head;
 
 // ---- numbers
 
 // Rule R14: ballot ≤ term; chosen ≤ length ≤ the limit; an empty log if ballot is 0.
+#[tactic(auto, unfolding(state::specs::Head::kept_head))]
 pub fn is_kept_head(h: Head) -> bool
     ensures { result ≡ kept_head h }
 {
-    let b = h.ballot;
-    let n = h.length;
-    let long = n.number();
-    !h.term.below(b)
-        & (!n.below(h.chosen) & ((long <= kinds::places()) & ((b.number() != 0) | (long == 0))))
+    h.ballot <= h.term
+        && h.chosen <= h.length
+        && u32::from(h.length) <= kinds::places()
+        && (u32::from(h.ballot) != 0 || u32::from(h.length) == 0)
 }
 
 // ---- roles
 
 // Follower: nothing held in the lost parts.
+#[tactic(auto, unfolding(state::specs::Head::follower_head))]
 fn is_follower_head(h: Head) -> bool
     ensures { result ≡ follower_head h }
 {
-    let g = h.gathered;
-    let vs = h.voters;
-    let ps = h.confirmed;
-    (g.number() == 0) & (voters::no_voters(vs, 0) & lengths::none_confirmed(ps, 0))
+    u32::from(h.gathered) == 0
+        && voters::no_voters(h.voters, 0)
+        && lengths::none_confirmed(h.confirmed, 0)
 }
 
 // Candidate: ballot below term; a place for each gathered row; voters; no confirmed lengths.
-fn is_candidate_head(size: u32, own: Hub, h: Head) -> bool
-    ensures { result ≡ candidate_head (who size own.0) h }
+#[tactic(auto, using(kinds::proofs::SizesLaws::limit_small), unfolding(state::specs::Head::candidate_head))]
+fn is_candidate_head(g: Caller, h: Head) -> bool
+    ensures { result ≡ candidate_head (who_in g) h }
 {
-    let b = h.ballot;
-    let n = h.length;
-    let g = h.gathered;
-    let vs = h.voters;
-    let ps = h.confirmed;
-    let rows = (n.number() as u64) + (g.number() as u64);
-    b.below(h.term)
-        & ((rows <= (kinds::places() as u64))
-            & (voters::are_voters(size, own, vs) & lengths::none_confirmed(ps, 0)))
+    h.ballot < h.term
+        && u32::from(h.length).saturating_add(h.gathered.into()) <= kinds::places()
+        && voters::are_voters(g, h.voters)
+        && lengths::none_confirmed(h.confirmed, 0)
 }
 
 // Leader: ballot = term ≥ 1; no voters, nothing gathered; confirmed lengths.
-fn is_leader_head(size: u32, own: Hub, h: Head) -> bool
-    ensures { result ≡ leader_head (who size own.0) h }
+#[tactic(auto, unfolding(state::specs::Head::leader_head))]
+fn is_leader_head(g: Caller, h: Head) -> bool
+    ensures { result ≡ leader_head (who_in g) h }
 {
-    let b = h.ballot;
-    let t = h.term;
-    let g = h.gathered;
-    let vs = h.voters;
-    let ps = h.confirmed;
-    let lost = (g.number() == 0)
-        & (voters::no_voters(vs, 0) & lengths::are_confirmed(size, own, h.length, ps));
-    b.equals(t) & ((1 <= t.number()) & lost)
+    h.ballot == h.term
+        && 1 <= u32::from(h.term)
+        && u32::from(h.gathered) == 0
+        && voters::no_voters(h.voters, 0)
+        && lengths::are_confirmed(g, h.length, h.confirmed)
 }
 
 // What the head's role asks of it. There are three roles.
-fn is_role_head(size: u32, own: Hub, h: Head) -> bool
-    ensures { result ≡ role_head (who size own.0) h.role h }
+#[tactic(auto, unfolding(state::specs::Head::role_head))]
+fn is_role_head(g: Caller, h: Head) -> bool
+    ensures { result ≡ role_head (who_in g) h.role h }
 {
-    if h.role == kinds::FOLLOWER {
-        return is_follower_head(h);
+    match h.role {
+        kinds::FOLLOWER => is_follower_head(h),
+        kinds::CANDIDATE => is_candidate_head(g, h),
+        kinds::LEADER => is_leader_head(g, h),
+        _ => false,
     }
-    if h.role == kinds::CANDIDATE {
-        return is_candidate_head(size, own, h);
-    }
-    if h.role == kinds::LEADER {
-        return is_leader_head(size, own, h);
-    }
-    false
 }
 
 // All tests of the head, which was read from these bytes.
-pub fn is_legal_head(size: u32, own: Hub, h: Head, s: &[u8]) -> bool
+#[tactic(auto, unfolding(state::specs::Check::checked_head))]
+pub fn is_legal_head(g: Caller, h: Head, s: &[u8]) -> bool
     requires { (head_size ≤ length s.now) × (h ≡ head_in s.now) }
-    ensures { result ≡ checked_head (who size own.0) s.now }
+    ensures { result ≡ checked_head (who_in g) s.now }
 {
-    if !voters::are_flags(s, 21) {
-        return false;
-    }
-    is_kept_head(h) & is_role_head(size, own, h)
+    voters::are_flags(s, 21) && is_kept_head(h) && is_role_head(g, h)
 }

@@ -5,7 +5,8 @@ use native.Mathlib.Nat.{zero-add}
 use native.Mathlib.Numerals.{towards_suc}
 use mathlib.Core.Path.{◌≡◌, ◌∙◌, ap}
 use mathlib.Core.List.{List, [], ◌∷◌, ◌++◌}
-use lib.ListN.{length, take, drop, get_or}
+use Rattle.std.proofs.lemmas.List.{drop-append-le, take-append-le}
+use lib.ListN.{length, take, drop, get_or, length-drop}
 use lib.Seq.{take_at, drop-cons, drop-append-add, drop-drop, take-add, get_or-drop}
 use Rattle.command.specs.Words.{value, part, word_at}
 use Rattle.command.proofs.WordsLaws.{Bytes}
@@ -26,6 +27,18 @@ part_behind k at w xs ys e = rw (← e, drop-append-add xs ys at)
 pub word_at_behind : (k at w : ℕ) (xs ys : List ℕ) → length xs ≡ k → word_at (k + at) w (xs ++ ys) ≡ word_at at w ys
 unfolding word_at
 word_at_behind k at w xs ys e = rw (part_behind k at w xs ys e)
+
+-- A part within a first part.
+pub part_within : (at w : ℕ) (xs ys : List ℕ) → at + w ≤ length xs → part at w (xs ++ ys) ≡ part at w xs
+unfolding part
+part_within at w xs ys h =
+    let room : w ≤ length (drop at xs) = omega (arith, length-drop at xs) in
+    rw (drop-append-le at xs ys (omega arith)) (take-append-le w (drop at xs) ys room)
+
+-- A number within a first part.
+pub word_at_within : (at w : ℕ) (xs ys : List ℕ) → at + w ≤ length xs → word_at at w (xs ++ ys) ≡ word_at at w xs
+unfolding word_at
+word_at_within at w xs ys h = rw (part_within at w xs ys h)
 
 -- What stands past a first part.
 pub drop_behind : (k at : ℕ) (xs ys : List ℕ) → length xs ≡ k → drop (k + at) (xs ++ ys) ≡ drop at ys

@@ -1,8 +1,8 @@
 -- Laws of commands and rows by their words. Assumes nothing.
-use Prim.Native.Nat.{ℕ, zero, suc, ◌+◌, ◌-◌, ◌/◌, ◌%◌, ◌≤◌, ◌<◌}
+use Prim.Native.Nat.{ℕ, suc, ◌+◌, ◌-◌, ◌*◌, ◌/◌, ◌%◌, ◌≤◌, ◌<◌}
 use native.Mathlib.Omega.{arith}
 use native.Mathlib.Nat.{div-add-mod'}
-use mathlib.Core.Path.{◌≡◌, refl, sym, ◌∙◌, ap}
+use mathlib.Core.Path.{◌≡◌, sym, ◌∙◌, ap}
 use mathlib.Core.List.{List, ◌++◌, append_assoc}
 use lib.ListN.{length}
 use lib.Seq.{sets}
@@ -63,17 +63,19 @@ row_written n c at l e e1 e2 = rw (e2, e1, e) (word_then l at (at + 4) 4 n (word
 
 -- ---- rows that take another number
 
--- One row has its number; one less is left.
+-- The i-th of n rows has its number; one less is left.
 pub renumbered_next :
-    (l : List ℕ) (at n t : ℕ) {m : ℕ} {l' : List ℕ} → 0 < n → m ≡ t → l' ≡ sets l at (word 4 m) → renumbered l at n t ≡ renumbered l' (at + row_size) (n - 1) t
+    (l : List ℕ) (from i n t : ℕ) {m : ℕ} {l' : List ℕ} → i < n → m ≡ t → l' ≡ sets l (from + i * row_size) (word 4 m)
+    → renumbered l (from + i * row_size) (n - i) t ≡ renumbered l' (from + (i + 1) * row_size) (n - (i + 1)) t
 unfolding renumbered
-renumbered_next l at zero t h em e = absurd (omega arith)
-renumbered_next l at (suc n) t h em e =
-    let less : n ≡ suc n - 1 = omega arith in
-    rw (e, em) (ap (λ (k : ℕ). renumbered (sets l at (word 4 t)) (at + row_size) k t) less)
+renumbered_next l from i n t h em e =
+    let more : n - i ≡ suc (n - (i + 1)) = omega arith in
+    let next : from + (i + 1) * row_size ≡ from + i * row_size + row_size = omega arith in
+    rw (e, em, more, next)
 
 -- None is left.
-pub renumbered_none : (l : List ℕ) (at n t : ℕ) → n ≤ 0 → renumbered l at n t ≡ l
+pub renumbered_none : (l : List ℕ) (at i n t : ℕ) → n ≤ i → renumbered l at (n - i) t ≡ l
 unfolding renumbered
-renumbered_none l at zero t h = refl
-renumbered_none l at (suc n) t h = absurd (omega arith)
+renumbered_none l at i n t h =
+    let none : n - i ≡ 0 = omega arith in
+    rw none

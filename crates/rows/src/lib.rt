@@ -11,7 +11,7 @@ ghost use Rattle.rows.specs.Words.{words_at, words_bytes, row_words, renumbered}
 use kinds::Term;
 
 // A command by its four words, as they stand in its bytes; motor and kind share the first.
-#[derive(Clone, Copy)]
+#[derive(Clone, Copy, Debug, PartialEq, Eq)]
 pub struct Words {
     pub what: u32,
     pub duration: u32,
@@ -35,6 +35,7 @@ pub fn words_at(s: &[u8], at: usize) -> Words
 }
 
 // Writes the 16 bytes of a command.
+#[tactic(auto, using(crate::proofs::WordsLaws::words_written))]
 pub fn put_words(s: &mut [u8], at: usize, c: Words)
     requires { at + command_size ≤ length s.old }
     ensures { s.new ≡ sets s.old at (words_bytes c) }
@@ -46,54 +47,44 @@ pub fn put_words(s: &mut [u8], at: usize, c: Words)
 }
 
 // Writes a row: its number, which is an entry's term or a gathered pair's ballot, and its command.
+#[tactic(auto, using(crate::proofs::WordsLaws::row_written))]
 pub fn put_row(s: &mut [u8], at: usize, t: Term, c: Words)
     requires { at + row_size ≤ length s.old }
     ensures { s.new ≡ sets s.old at (row_words t.0 c) }
 {
-    words::put32(s, at, t.number());
+    words::put32(s, at, t.into());
     put_words(s, at + 4, c);
 }
 
 // Gives n rows from a place on this term; their commands stay.
+// (A place and a count, not a part of the slice: the definition `renumbered` speaks of a place in the state's bytes.)
 pub fn renumber(s: &mut [u8], from: usize, n: u32, t: Term)
     requires { from + n * row_size ≤ length s.old }
     ensures { s.new ≡ renumbered s.old from n t.0 }
 {
-    let mut at = from;
-    let mut left = n;
-    while 0 < left {
-        words::put32(s, at, t.number());
-        at += kinds::ROW;
-        left -= 1;
+    for i in 0..n as usize {
+        // (A proof knows nothing of what `chunks_exact_mut` leaves in the slice.)
+        words::put32(s, from + i * kinds::ROW, t.into());
     }
 }
 
 // ---- legal rows
 
-// The least number of the row behind one of number t.
-fn least_behind(rising: bool, t: u32, low: u32) -> u32
-    ensures { result ≡ cond rising t low }
-{
-    if rising { t } else { low }
-}
-
 // Whether n rows from a place on are legal: numbers from low to high, where they have to rise none below the one before; commands legal.
+// (`rising`, `low` and `high` are those of `legal_rows`: a struct of them would be made in each of three calls, and taken apart here.)
 pub fn are_legal(s: &[u8], from: usize, n: u32, rising: bool, low: u32, high: u32) -> bool
     requires { from + n * row_size ≤ length s.now }
     ensures { result ≡ legal_rows rising low high (rows_in row_of n (drop from s.now)) }
 {
-    let limits = lawful::limits();
     let mut least = low;
-    let mut at = from;
-    let mut left = n;
-    while 0 < left {
-        let t = words::get32(s, at);
-        if !((least <= t) & ((t <= high) & lawful::is_legal_in(&limits, s, at + 4))) {
+    for row in s[from..from + n as usize * kinds::ROW].chunks_exact(kinds::ROW) {
+        let t = words::get32(row, 0);
+        if !((least <= t) & (t <= high) & lawful::is_legal_at(row, 4)) {
             return false;
         }
-        least = least_behind(rising, t, least);
-        at += kinds::ROW;
-        left -= 1;
+        if rising {
+            least = t;
+        }
     }
     true
 }

@@ -2,10 +2,9 @@
 use Prim.Native.Nat.{ℕ, ◌-◌, ◌≤◌, ◌<◌}
 use native.Mathlib.Omega.{arith}
 use mathlib.Core.Path.{◌≡◌, refl, ◌∙◌, ap₂}
-use mathlib.Core.Bool.{true, false}
+use mathlib.Core.Bool.{true}
 use mathlib.Core.List.{List}
-use borrow.Author.Tests.{ltb-true, ltb-false, le-leb}
-use lib.Dec.{ltb}
+use borrow.Author.Tests.{le-leb}
 use lib.ListN.{length, drop, length-drop}
 use Rattle.kinds.specs.declared.Place.{Place}
 use Rattle.kinds.specs.declared.Term.{Term}
@@ -21,7 +20,6 @@ use Rattle.message.specs.declared.Body.TheVariants.{VoteYes, VoteNo, AppendYes, 
 use Rattle.state.specs.declared.Head.{Head}
 use Rattle.state.specs.State.{Kept}
 use Rattle.state.specs.Image.{state_in}
-use Rattle.state.specs.Head.{head_in}
 use Rattle.rules.specs.Events.{len, says}
 use Rattle.rules.specs.Receive.{ballot_told, vote}
 use Rattle.rules.proofs.VoteLaws.{vote_either, yes_legal}
@@ -50,10 +48,7 @@ module _ (k : Kept) (last ballot : ℕ) where
 
 -- ---- what an answer needs
 
-module _ (w : Who) (l : List ℕ) (to : ℕ) (out : List ℕ) (a : Answering w l to out) {h : Head} (e : h ≡ head_in l) where
-  abbrev tested : Tested w h l
-  tested = record { ready = a.ready; head = e }
-
+module _ (w : Who) (h : Head) (l : List ℕ) (tested : Tested w h l) (to : ℕ) (out : List ℕ) (a : Answering (state_in l) to out) where
   abbrev log : List Entry
   log = (state_in l).kept.log
 
@@ -64,31 +59,30 @@ module _ (w : Who) (l : List ℕ) (to : ℕ) (out : List ℕ) (a : Answering w l
   may_say :
       (body : Body) (after : ℕ) → after ≤ limit → many_in body ≡ length (entries_of (said_with body (drop after log)))
       → legal_to to (said_with body (drop after log)) ≡ true → legal_body (state_in l).kept.term (said_with body (drop after log)) ≡ true
-      → Speaks w h l to body after out
+      → Speaks w l to body after out
   may_say body after within counted t b =
       let s = state_in l in
       record {
-        tested = tested;
         place = within;
         counted = counted;
-        legal = (says_legal w (ready_who w l a.ready) s s to (said_with body (drop after log)) refl a.risen (tested_kept w h l tested).term t b).legal;
+        legal = (says_legal w (ready_who w l tested.ready) s s to (said_with body (drop after log)) refl a.risen (tested_kept w h l tested).term t b).legal;
         room = a.room;
       }
 
   -- vote-no.
-  pub may_say_no : Speaks w h l to VoteNo h.length.0 out
+  pub may_say_no : Speaks w l to VoteNo h.length.0 out
   unfolding entries_of legal_to legal_body
   may_say_no = may_say VoteNo h.length.0 (tested_within w h l tested) refl to_hub refl
 
   -- append-no with own length.
-  pub may_say_length : Speaks w h l to (AppendNo h.length) h.length.0 out
+  pub may_say_length : Speaks w l to (AppendNo h.length) h.length.0 out
   unfolding entries_of legal_to legal_body
   may_say_length =
       let within = tested_within w h l tested in
       may_say (AppendNo h.length) h.length.0 within refl to_hub (le-leb h.length.0 limit within)
 
   -- append-yes with an end that is a place.
-  pub may_say_end : (end : Place) → end.0 ≤ limit → Speaks w h l to (AppendYes end) h.length.0 out
+  pub may_say_end : (end : Place) → end.0 ≤ limit → Speaks w l to (AppendYes end) h.length.0 out
   unfolding entries_of legal_to legal_body
   may_say_end end most = may_say (AppendYes end) h.length.0 (tested_within w h l tested) refl to_hub (le-leb end.0 limit most)
 
@@ -108,16 +102,16 @@ module _ (w : Who) (l : List ℕ) (to : ℕ) (out : List ℕ) (a : Answering w l
 
     -- The ballot told is higher: no.
     pub said_no :
-        {r : ℕ} {out' : List ℕ} → ltb ballot told.0 ≡ true → Said (says w (state_in l) to vote_no) out r out'
+        {r : ℕ} {out' : List ℕ} → ballot < told.0 → Said (says w (state_in l) to vote_no) out r out'
         → Said (says w (state_in l) to (vote kept last ballot)) out r out'
-    said_no high said = rw (vote_higher kept last ballot (omega (arith, ltb-true ballot told.0 high, told_is))) said
+    said_no high said = rw (vote_higher kept last ballot (omega (arith, told_is))) said
 
-    module _ (b : legal_body kept.term (vote_request last ballot) ≡ true) (low : ltb ballot told.0 ≡ false) where
+    module _ (b : legal_body kept.term (vote_request last ballot) ≡ true) (low : told.0 ≤ ballot) where
       not_higher : ballot_told (length kept.log) kept.ballot ≤ ballot
-      not_higher = omega (arith, ltb-false ballot told.0 low, told_is)
+      not_higher = omega (arith, told_is)
 
       -- It is not: yes, with the entries after last.
-      pub may_say_yes : {count : ℕ} → count ≡ h.length.0 - last → Speaks w h l to (VoteYes (place last) told count) last out
+      pub may_say_yes : {count : ℕ} → count ≡ h.length.0 - last → Speaks w l to (VoteYes (place last) told count) last out
       unfolding entries_of legal_to
       may_say_yes {count} n =
           let request = request_is kept.term last ballot b in

@@ -5,12 +5,14 @@ use mathlib.Core.Path.{◌≡◌, refl, sym, ◌∙◌, ap}
 use mathlib.Core.Bool.{true, false}
 use mathlib.Core.List.{List}
 use mathlib.Core.Option.{some}
-use borrow.Author.Tests.{ne_eqb}
+use lib.Dec.{eqb}
+use Rattle.std.specs.Prelude.{Ok, Err}
 use Rattle.kinds.specs.Sizes.{Who}
 use Rattle.kinds.specs.Role.{as_leader}
-use Rattle.kinds.specs.Packed.{packed}
-use Rattle.kinds.proofs.PackedLaws.{packed_alone}
+use Rattle.kinds.specs.Refusal.{number_of}
+use Rattle.kinds.specs.declared.Refusal.{Refusal}
 use Rattle.message.specs.Message.{Message}
+use Rattle.message.specs.Legal.{legal_message}
 use Rattle.state.specs.declared.Head.{Head}
 use Rattle.state.specs.State.{Kept, Lost, follower, candidate, leader, State}
 use Rattle.state.specs.Image.{role_of, image, state_in}
@@ -22,21 +24,25 @@ use Rattle.promise.specs.Append.{Tested}
 use Rattle.promise.proofs.PromiseLaws.{ready_role}
 use Rattle.promise.proofs.LostLaws.{not_leading}
 use Rattle.say.specs.Said.{Said}
+use Rattle.say.proofs.SpokenLaws.{said_small}
 
 -- ---- what is returned and left
 
 -- A refusal leaves every byte.
-pub refused_gives : {n : Next} (s : State) (l : List ℕ) {out : List ℕ} (k : ℕ) → n ≡ refuses s k → (k ≡ done → ⊥) → Gives n l out k l out
+pub refused_gives :
+    {n : Next} (s : State) (l : List ℕ) {out : List ℕ} (e : Refusal) → eqb (number_of e) done ≡ false → n ≡ refuses s (number_of e) → Gives n l out (Err e) l out
 unfolding left_by written over
-refused_gives s l k e h = rw e (record { returned = sym (packed_alone k); state_left = rw (ne_eqb k done h); output_left = refl })
+refused_gives s l e other is =
+    rw is (record { outcome = refl; bytes = refl; bytes_fit = omega arith; state_left = rw other; output_left = refl })
 
 -- An event that takes effect and writes a message.
 pub said_gives :
-    {n : Next} (t : State) (m : Message) {l l' out out' : List ℕ} {bytes r : ℕ} → n ≡ goes t (some m) → l' ≡ image t → Said m out bytes out'
-    → r ≡ packed done bytes → Gives n l out r l' out'
+    {n : Next} (t : State) (m : Message) {l l' out out' : List ℕ} {bytes : ℕ} → n ≡ goes t (some m) → l' ≡ image t → legal_message m ≡ true
+    → Said m out bytes out' → Gives n l out (Ok bytes) l' out'
 unfolding left_by written
-said_gives t m e left said r= =
-    rw e (record { returned = r= ∙ ap (packed done) said.returned; state_left = left; output_left = said.output_left })
+said_gives t m is left legal said =
+    rw is
+    (record { outcome = refl; bytes = said.returned; bytes_fit = said_small legal said; state_left = left; output_left = said.output_left })
 
 -- ---- who leads
 

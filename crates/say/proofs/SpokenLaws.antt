@@ -114,11 +114,11 @@ wrote_said {m} {out} legal room wrote =
 pub said_small : {m : Message} {out out' : List ℕ} {r : ℕ} → legal_message m ≡ true → Said m out r out' → r < half
 said_small {m} legal said = omega (arith, said.returned, text_most m legal, room_small)
 
-module _ (w : Who) (h : Head) (l : List ℕ) (to : Hub) (body : Body) (after : ℕ) (out : List ℕ) (k : Speaks w h l to.0 body after out) where
+module _ (w : Who) (h : Head) (l : List ℕ) (t : Tested w h l) (to : Hub) (body : Body) (after : ℕ) (out : List ℕ) (k : Speaks w l to.0 body after out) where
   -- The row of the place lies within the bytes.
   pub spoken_inside : head_size + after * row_size ≤ length l
   unfolding state_size
-  spoken_inside = omega (arith, k.place, ready_size w l k.tested.ready)
+  spoken_inside = omega (arith, k.place, ready_size w l t.ready)
 
   -- The rows from there on are lent.
   module _ (from : Hub) (own : from.0 ≡ w.own) {row : ℕ} (at : row ≡ head_size + after * row_size) where
@@ -132,7 +132,7 @@ module _ (w : Who) (h : Head) (l : List ℕ) (to : Hub) (body : Body) (after : �
     unfolding message_with says
     whole =
         let same = ap (λ (rows : List ℕ). said_with body (row_entries (many_in body) rows)) lent_is ∙ body_rows l after body k.counted in
-        λ i. record { term = tested_term w h l k.tested i; from = own i; to = to.0; body = same i }
+        λ i. record { term = tested_term w h l t i; from = own i; to = to.0; body = same i }
 
     -- What is handed over may be written.
     pub spoken_puts : Puts (fields_for h.term from to body) lent out
@@ -147,11 +147,11 @@ module _ (w : Who) (h : Head) (l : List ℕ) (to : Hub) (body : Body) (after : �
                 k.counted,
                 body_most body (drop after log),
                 length-drop after log,
-                (tested_kept w h l k.tested).within,
+                (tested_kept w h l t).within,
                 k.place,
                 ap length lent_is,
                 length-drop (head_size + after * row_size) l,
-                ready_size w l k.tested.ready,
+                ready_size w l t.ready,
               );
           room = k.room;
         }

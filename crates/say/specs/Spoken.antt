@@ -6,20 +6,17 @@ use Rattle.message.specs.Message.{Message, entries_of}
 use Rattle.message.specs.Legal.{legal_message}
 use Rattle.message.specs.Answer.{said_with, many_in}
 use Rattle.message.specs.declared.Body.{Body}
-use Rattle.state.specs.declared.Head.{Head}
 use Rattle.state.specs.State.{State}
 use Rattle.state.specs.Image.{state_in}
 use Rattle.rules.specs.Events.{says}
-use Rattle.promise.specs.Append.{Tested}
 
 -- What the hub says with this body and the entries of its log after a place.
 abbrev pub spoken : Who → State → ℕ → Body → ℕ → Message
 spoken w s to body after = says w s to (said_with body (drop after s.kept.log))
 
--- What holds where a hub writes a message: its bytes are ready, with this head; the place is one of a log; the body counts the entries that it
--- gets; the message is legal, and the output has its room.
-pub record Speaks (w : Who) (h : Head) (l : List ℕ) (to : ℕ) (body : Body) (after : ℕ) (out : List ℕ) : Type 0 where
-  pub tested : Tested w h l
+-- What holds where a hub writes a message: the place is one of a log; the body counts the entries that it gets; the message is legal, and the output
+-- has its room.
+pub record Speaks (w : Who) (l : List ℕ) (to : ℕ) (body : Body) (after : ℕ) (out : List ℕ) : Type 0 where
   pub place : after ≤ limit
   pub counted : many_in body ≡ length (entries_of (said_with body (drop after (state_in l).kept.log)))
   pub legal : legal_message (spoken w (state_in l) to body after) ≡ true

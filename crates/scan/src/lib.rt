@@ -2,97 +2,76 @@
 // place past it. The readers of lines and of entries call these.
 #![tactic(auto)]
 
-ghost use Rattle.std.specs.Prelude.{◌≡◌, ◌+◌, ◌-◌, ◌<◌, ◌≤◌, length, drop};
+ghost use Rattle.std.specs.Prelude.{◌+◌, ◌-◌, ◌≤◌, length, drop};
 ghost use Rattle.text.specs.Decimal.{more_digits, number};
 ghost use Rattle.text.specs.Range.{within, number_in};
 ghost use Rattle.text.specs.Reader.{onward, literal};
 ghost use Rattle.text.specs.Found.{FoundNext, FoundNumber, IsFour};
 
-use text::{Next, Number};
-
-// The byte of the digit 9, the last.
-const NINE: u8 = 57;
-
-fn wide(x: u8) -> u32
-    ensures { (result ≡ x) × (result < 256) }
-{
-    x as u32
-}
+use text::{Bounds, Number};
 
 // ---- numbers
 
 // The digits from `at` on, behind others that make the number `first`, up to the first byte that is none.
-fn digits_to(s: &[u8], at: usize, first: u32, hi: u32) -> Number
+// (The index is the place that is answered: `iter().enumerate().skip(at)` would be no shorter.)
+fn digits_to(s: &[u8], at: usize, first: u32, hi: u32) -> Option<Number>
     requires { (at ≤ length s.now) × (first ≤ hi) }
     ensures { FoundNumber s.now (onward (more_digits first (drop at s.now)) (within 0 hi)) result }
 {
-    let most = hi as u64;
-    let mut v = first as u64;
-    let mut i = at;
-    while i < s.len() {
-        let c = s[i];
-        if (c < text::ZERO) | (NINE < c) {
-            return Number::Is {
-                value: v as u32,
-                next: i,
-            };
+    let mut value = first;
+    for next in at..s.len() {
+        let c = s[next];
+        if !c.is_ascii_digit() {
+            return Some(Number { value, next });
         }
-        v = v * 10 + wide(c - text::ZERO) as u64;
-        if most < v {
-            return Number::Bad;
+        value = value.checked_mul(10)?.checked_add(u32::from(c - b'0'))?;
+        if hi < value {
+            return None;
         }
-        i += 1;
     }
-    Number::Is {
-        value: v as u32,
-        next: i,
-    }
+    Some(Number {
+        value,
+        next: s.len(),
+    })
 }
 
 // A number at most hi.
-fn number_to(s: &[u8], at: usize, hi: u32) -> Number
+fn number_to(s: &[u8], at: usize, hi: u32) -> Option<Number>
     ensures { FoundNumber s.now (onward (number (drop at s.now)) (within 0 hi)) result }
 {
-    if s.len() <= at {
-        return Number::Bad;
+    let c = *s.get(at)?;
+    if !c.is_ascii_digit() {
+        return None;
     }
-    let c = s[at];
-    if (c < text::ZERO) | (NINE < c) {
-        return Number::Bad;
-    }
-    if c == text::ZERO {
-        return Number::Is {
+    if c == b'0' {
+        return Some(Number {
             value: 0,
             next: at + 1,
-        };
+        });
     }
-    let first = wide(c - text::ZERO);
+    let first = u32::from(c - b'0');
     if hi < first {
-        return Number::Bad;
+        return None;
     }
     digits_to(s, at + 1, first, hi)
 }
 
-// A number in lo..hi that the byte `end` ends.
-pub fn number_in(s: &[u8], at: usize, lo: u32, hi: u32, end: u8) -> Number
-    ensures { FoundNumber s.now (number_in lo hi end (drop at s.now)) result }
+// A number in a range that the byte `end` ends.
+// (No `parse`: rule R27 has no 0 before other digits, the line has a range, and the place past the number is answered.)
+pub fn number_in(s: &[u8], at: usize, range: Bounds, end: u8) -> Option<Number>
+    ensures { FoundNumber s.now (number_in range.lo range.hi end (drop at s.now)) result }
 {
-    let Number::Is { value, next } = number_to(s, at, hi) else {
-        return Number::Bad;
-    };
-    if value < lo {
-        return Number::Bad;
+    let number = number_to(s, at, range.hi)?;
+    if number.value < range.lo {
+        return None;
     }
-    if s.len() <= next {
-        return Number::Bad;
+    if *s.get(number.next)? != end {
+        return None;
     }
-    if s[next] != end {
-        return Number::Bad;
-    }
-    Number::Is {
-        value,
-        next: next + 1,
-    }
+    Some(Number {
+        value: number.value,
+        next: number.next + 1,
+    })
 }
 
 // ---- literals
@@ -102,39 +81,39 @@ fn four(s: &[u8], at: usize) -> u32
     requires { at + 4 ≤ length s.now }
     ensures { IsFour s.now at result }
 {
-    wide(s[at]) + wide(s[at + 1]) * 256 + wide(s[at + 2]) * 65_536 + wide(s[at + 3]) * 16_777_216
+    u32::from_le_bytes([s[at], s[at + 1], s[at + 2], s[at + 3]])
 }
 
-// Whether the bytes of `key` from the place `from` on stand from `at` on.
-fn rest_stands(s: &[u8], at: usize, key: &[u8], from: usize) -> Next
+// The place past the bytes of `key` from its place `from` on, if they stand from `at` on.
+// (`next` goes along by hand, since it is what is answered.)
+fn rest_stands(s: &[u8], at: usize, key: &[u8], from: usize) -> Option<usize>
     requires { (from ≤ length key.now) × (at + (length key.now - from) ≤ length s.now) }
     ensures { FoundNext s.now (literal (drop from key.now) (drop at s.now)) result }
 {
-    let mut i = at;
-    let mut j = from;
-    while j < key.len() {
-        if s[i] != key[j] {
-            return Next::Bad;
+    let mut next = at;
+    for j in from..key.len() {
+        if s[next] != key[j] {
+            return None;
         }
-        i += 1;
-        j += 1;
+        next += 1;
     }
-    Next::At(i)
+    Some(next)
 }
 
-// Whether the bytes of `key` stand from `at` on. They are compared four at a time, and what is left one at a time.
-pub fn stands(s: &[u8], at: usize, key: &[u8]) -> Next
+// The place past the bytes of `key`, if they stand from `at` on. They are compared four at a time, and what is left one at a time: with the library's
+// `starts_with` a vote-no and an append-yes miss the bar of instructions that host/counted holds the reader to.
+pub fn stands(s: &[u8], at: usize, key: &[u8]) -> Option<usize>
     requires { at ≤ length s.now }
     ensures { FoundNext s.now (literal key.now (drop at s.now)) result }
 {
     if s.len() - at < key.len() {
-        return Next::Bad;
+        return None;
     }
     let mut i = at;
     let mut j: usize = 0;
     while 4 <= key.len() - j {
         if four(s, i) != four(key, j) {
-            return Next::Bad;
+            return None;
         }
         i += 4;
         j += 4;

@@ -1,16 +1,14 @@
 -- That the code which divides both ends of the range by ten finds whether a number of the range begins so, and that such a beginning is at most the
--- range's end. And what a byte that is no digit ends. Assumes nothing.
-use Prim.Native.Nat.{ℕ, zero, suc, ◌+◌, ◌/◌, ◌≤◌, ◌<◌}
+-- range's end. Assumes nothing.
+use Prim.Native.Nat.{ℕ, zero, suc, ◌/◌, ◌≤◌, ◌<◌}
 use native.Mathlib.Omega.{arith}
-use mathlib.Core.Bool.{Bool, true, false, not}
+use mathlib.Core.Bool.{Bool, true, false}
 use mathlib.Core.Path.{◌≡◌, sym, ◌∙◌}
-use borrow.Author.Tests.{le-leb, lt-leb, eq-eqb, ne_eqb, not-false}
-use Rattle.kinds.proofs.BetweenLaws.{between_in, between_below, between_above}
+use borrow.Author.Tests.{le-leb, lt-leb}
+use Rattle.kinds.proofs.BetweenLaws.{between_in, between_above}
 use Rattle.kinds.proofs.BoolLaws.{same_test}
 use Rattle.begins.specs.Digits.{grows}
 use Rattle.begins.proofs.DigitsLaws.{fits_most, grows_true, grows_is}
-use Rattle.seek.specs.Spotted.{ended_at}
-use Rattle.seek.specs.declared.NumberAt.TheVariants.{Is, Wrong}
 
 -- ---- whether a number of the range begins so
 
@@ -51,29 +49,5 @@ module _ (t : Bool) (l h v : ℕ) (so_far : t ≡ grows h l h v) where
   grow_again o p q = so_far ∙ again_at h l v o p q
 
 -- What begins a number of the range is at most the range's end.
-pub grow_most : (lo hi v : ℕ) (t : Bool) → t ≡ grows hi lo hi v → not t ≡ false → v ≤ hi
-grow_most lo hi v t e n = let g = grows_true hi lo hi v (sym e ∙ not-false t n) in fits_most 10 (omega arith) g.more lo hi v g.fit
-
--- ---- what a byte that is no digit ends
-
-module _ (c i lo hi end v : ℕ) where
-  -- It is another byte than the one that ends the number.
-  pub ended_other : (c ≡ end → ⊥) → Wrong i ≡ ended_at c i lo hi end v
-  unfolding ended_at
-  ended_other n = rw (ne_eqb c end n)
-
-  module _ (e : c ≡ end) where
-    -- The number is below the range.
-    pub ended_below : v < lo → Wrong i ≡ ended_at c i lo hi end v
-    unfolding ended_at
-    ended_below p = rw (eq-eqb c end e, between_below lo hi v p)
-
-    -- It is above the range.
-    pub ended_above : hi < v → Wrong i ≡ ended_at c i lo hi end v
-    unfolding ended_at
-    ended_above p = rw (eq-eqb c end e, between_above lo hi v p)
-
-    -- It lies in the range.
-    pub ended_in : lo ≤ v → v ≤ hi → Is v (i + 1) ≡ ended_at c i lo hi end v
-    unfolding ended_at
-    ended_in p q = rw (eq-eqb c end e, between_in lo hi v p q)
+pub grow_most : (lo hi v : ℕ) (t : Bool) → t ≡ grows hi lo hi v → t ≡ true → v ≤ hi
+grow_most lo hi v t e n = let g = grows_true hi lo hi v (sym e ∙ n) in fits_most 10 (omega arith) g.more lo hi v g.fit

@@ -1,39 +1,26 @@
 -- What is sought of a decimal number, from the bytes that stand at a place: one law for each answer of the code, whose premises are what the code's
 -- tests and calls tell. Assumes nothing.
+use Rattle.std.specs.Prelude.{Result, Ok, Err}
+use Rattle.std.specs.Char.{is_ascii_digit}
 use Prim.Native.Nat.{ℕ, ◌+◌, ◌-◌, ◌*◌, ◌≤◌, ◌<◌}
 use native.Mathlib.Omega.{arith}
-use mathlib.Core.Bool.{Bool, true, false, not, ◌&&◌, ◌||◌}
-use mathlib.Core.List.{List}
-use mathlib.Core.Path.{◌≡◌, refl, sym, ◌∙◌, ap, ap₂}
-use lib.Dec.{eqb, ltb}
+use mathlib.Core.Bool.{Bool, true, false, ◌&&◌}
+use mathlib.Core.List.{List, [], ◌∷◌}
+use mathlib.Core.Path.{◌≡◌, refl, sym, ◌∙◌}
+use lib.Dec.{eqb}
 use lib.ListN.{length, get_or, drop}
-use borrow.Author.Tests.{eq-eqb, ne_eqb, not-true, not-false}
+use borrow.Author.Tests.{eq-eqb, ne_eqb}
 use Rattle.kinds.specs.Sizes.{between}
-use Rattle.kinds.proofs.BoolLaws.{not_below, cond_either}
+use Rattle.kinds.proofs.BoolLaws.{cond_either}
 use Rattle.text.specs.Decimal.{is_digit}
-use Rattle.text.proofs.DecimalLaws.{is_digit_lem}
-use Rattle.text.proofs.FoundLaws.{drop_next, drop_past}
-use Rattle.begins.specs.Seek.{Sought, found, wrong}
+use Rattle.text.specs.declared.Number.{Number}
+use Rattle.text.proofs.FoundLaws.{drop_next, drop_past, digit_asked}
+use Rattle.begins.specs.Seek.{Sought, found, wrong, on, seek_literal}
 use Rattle.begins.specs.Digits.{grows, seek_end, seek_more, seek_number}
-use Rattle.seek.specs.Spotted.{At, SpottedNumber, ended_at}
-use Rattle.seek.specs.declared.NumberAt.{NumberAt}
-
--- Whether a byte is no digit, as the code asks it.
-abbrev pub no_digit : ℕ → Bool
-no_digit b = ltb b 48 || ltb 57 b
-
--- That is what `is_digit` says.
-asked : (b : ℕ) (t : Bool) → no_digit b ≡ t → is_digit b ≡ not t
-unfolding between
-asked b t e = sym (neither (ltb b 48) (ltb 57 b) ∙ ap₂ ◌&&◌ (not_below b 48) (not_below 57 b)) ∙ ap not e
-  where
-    neither : (x y : Bool) → not (x || y) ≡ not x && not y
-    neither true y = refl
-    neither false y = refl
-
--- The last digit is 57.
-pub digit_most : (b : ℕ) → no_digit b ≡ false → b ≤ 57
-digit_most b t = (is_digit_lem b (asked b false t)).1
+use Rattle.seek.specs.Spotted.{At, SpottedText, SpottedNumber, ended_at}
+use Rattle.seek.specs.declared.Wrong.{Wrong}
+use Rattle.command.proofs.Tests.{by_test}
+use Rattle.seek.proofs.SoughtLaws.{text_is, text_wrong, wrong_first, found_first}
 
 -- ---- behind the digits of v
 
@@ -46,47 +33,59 @@ module _ (s : List ℕ) (g : Sought ℕ) (lo hi end v i : ℕ) (so_far : g ≡ s
 
   module _ (p : i < length s) where
     -- A byte that is no digit.
-    pub more_stop : no_digit (get_or s i 0) ≡ true → (r : NumberAt) → r ≡ ended_at (get_or s i 0) i lo hi end v → SpottedNumber s g r
+    pub more_stop
+        : (t : Bool)
+        → t ≡ is_ascii_digit (get_or s i 0)
+        → t ≡ false
+        → (r : Result Number Wrong)
+        → r ≡ ended_at (get_or s i 0) i lo hi end v
+        → SpottedNumber s g r
     unfolding seek_more ended_at
-    more_stop t r e =
+    more_stop t a m r e =
+        let no : is_digit (get_or s i 0) ≡ false = digit_asked _ t a ∙ m in
         rw e
         (cond_either (SpottedNumber s g) (eqb (get_or s i 0) end && between lo hi v)
-        (λ q. record { inside = omega arith; is = so_far ∙ rw (drop_next s i p, asked _ true t, q, seek_more) })
-        (λ q. record { inside = omega arith; is = so_far ∙ rw (drop_next s i p, asked _ true t, q, seek_more) }))
+        (λ q. record { inside = omega arith; is = so_far ∙ rw (drop_next s i p, no, q, seek_more) })
+        (λ q. record { inside = omega arith; is = so_far ∙ rw (drop_next s i p, no, q, seek_more) }))
 
-    module _ (t : no_digit (get_or s i 0) ≡ false) (x : ℕ) (e : x ≡ get_or s i 0 - 48) (k : Bool) (b : k ≡ grows hi lo hi (v * 10 + x)) where
-      -- A digit, but no number of the range begins so.
-      pub more_wrong : not k ≡ true → At s g wrong i
-      unfolding seek_more
-      more_wrong n =
-          let f : grows hi lo hi (v * 10 + (get_or s i 0 - 48)) ≡ false = rw (← e) (sym b ∙ not-true k n) in
-          record { inside = omega arith; is = so_far ∙ rw (drop_next s i p, asked _ false t, f, seek_more) }
+    module _
+        (t : Bool) (a : t ≡ is_ascii_digit (get_or s i 0)) (m : t ≡ true)
+        (x : ℕ) (e : x ≡ get_or s i 0 - 48) (k : Bool) (b : k ≡ grows hi lo hi (v * 10 + x))
+      where
+        digit : is_digit (get_or s i 0) ≡ true
+        digit = digit_asked _ t a ∙ m
 
-      -- A digit more.
-      pub more_again : not k ≡ false → g ≡ seek_more lo hi end (v * 10 + x) (drop (i + 1) s)
-      unfolding seek_more
-      more_again n =
-          let f : grows hi lo hi (v * 10 + (get_or s i 0 - 48)) ≡ true = rw (← e) (sym b ∙ not-false k n) in
-          so_far ∙ rw (drop_next s i p, asked _ false t, f, e, seek_more)
+        -- A digit, but no number of the range begins so.
+        pub more_wrong : k ≡ false → At s g wrong i
+        unfolding seek_more
+        more_wrong n =
+            let f : grows hi lo hi (v * 10 + (get_or s i 0 - 48)) ≡ false = rw (← e) (sym b ∙ n) in
+            record { inside = omega arith; is = so_far ∙ rw (drop_next s i p, digit, f, seek_more) }
+
+        -- A digit more.
+        pub more_again : k ≡ true → g ≡ seek_more lo hi end (v * 10 + x) (drop (i + 1) s)
+        unfolding seek_more
+        more_again n =
+            let f : grows hi lo hi (v * 10 + (get_or s i 0 - 48)) ≡ true = rw (← e) (sym b ∙ n) in
+            so_far ∙ rw (drop_next s i p, digit, f, e, seek_more)
 
 -- ---- behind the digit 0
 
-module _ (s : List ℕ) (at end : ℕ) where
-  -- The text ends.
-  pub end_out : length s ≤ at → at ≤ length s → At s (seek_end end (drop at s)) wrong at
-  unfolding seek_end
-  end_out p q = record { inside = q; is = rw (drop_past s at p) }
+-- The byte that ends the number is sought as a literal is.
+end_sought : (end : ℕ) (s : List ℕ) → seek_end end s ≡ on (seek_literal (end ∷ []) s) (λ a. found 0)
+unfolding seek_end seek_literal on
+end_sought end [] = refl
+end_sought end (b ∷ bs) = by_test (eqb b end) (λ e. rw (e, seek_end, seek_literal)) (λ e. rw (e, seek_end, seek_literal))
 
-  module _ (p : at < length s) where
-    -- Another byte stands there.
-    pub end_other : (get_or s at 0 ≡ end → ⊥) → At s (seek_end end (drop at s)) wrong at
-    unfolding seek_end
-    end_other n = record { inside = omega arith; is = rw (drop_next s at p, ne_eqb _ _ n, seek_end) }
+module _ (s : List ℕ) (at end : ℕ) (x : Result ℕ Wrong) (h : SpottedText s (seek_literal (end ∷ []) (drop at s)) x) where
+  -- It does not stand there.
+  pub end_wrong : {w : Wrong} → x ≡ Err w → At s (seek_end end (drop at s)) wrong w.place
+  end_wrong e = rw end_sought (wrong_first (λ a. found 0) (text_wrong s _ x h e))
 
-    -- The right one stands there.
-    pub end_right : get_or s at 0 ≡ end → At s (seek_end end (drop at s)) (found 0) (at + 1)
-    unfolding seek_end
-    end_right e = record { inside = omega arith; is = rw (drop_next s at p, eq-eqb _ _ e, seek_end) }
+  -- It does.
+  pub end_right : {n : ℕ} → x ≡ Ok n → At s (seek_end end (drop at s)) (found 0) n
+  unfolding on
+  end_right e = let l = text_is s _ x h e in record { inside = l.inside; is = end_sought end (drop at s) ∙ found_first (λ a. found 0) l }
 
 -- ---- a number
 
@@ -101,33 +100,38 @@ module _ (s : List ℕ) (at lo hi end : ℕ) where
 
   module _ (p : at < length s) where
     -- A byte that is no digit.
-    pub number_stop : no_digit (get_or s at 0) ≡ true → At s G wrong at
+    pub number_stop : (t : Bool) → t ≡ is_ascii_digit (get_or s at 0) → t ≡ false → At s G wrong at
     unfolding seek_number
-    number_stop t = record { inside = omega arith; is = rw (drop_next s at p, asked _ true t, seek_number) }
+    number_stop t a m =
+        let no : is_digit (get_or s at 0) ≡ false = digit_asked _ t a ∙ m in
+        record { inside = omega arith; is = rw (drop_next s at p, no, seek_number) }
 
-    module _ (t : no_digit (get_or s at 0) ≡ false) where
+    module _ (t : Bool) (a : t ≡ is_ascii_digit (get_or s at 0)) (m : t ≡ true) where
+      starts : is_digit (get_or s at 0) ≡ true
+      starts = digit_asked _ t a ∙ m
+
       module _ (z : get_or s at 0 ≡ 48) where
         -- The digit 0, where the range has none.
         pub number_no_zero : (lo ≡ 0 → ⊥) → At s G wrong at
         unfolding seek_number
-        number_no_zero n = record { inside = omega arith; is = rw (drop_next s at p, asked _ false t, eq-eqb _ _ z, ne_eqb _ _ n, seek_number) }
+        number_no_zero n = record { inside = omega arith; is = rw (drop_next s at p, starts, eq-eqb _ _ z, ne_eqb _ _ n, seek_number) }
 
         -- The digit 0: the byte behind it decides.
-        pub number_zero : lo ≡ 0 → (r : NumberAt) → SpottedNumber s (seek_end end (drop (at + 1) s)) r → SpottedNumber s G r
+        pub number_zero : lo ≡ 0 → (r : Result Number Wrong) → SpottedNumber s (seek_end end (drop (at + 1) s)) r → SpottedNumber s G r
         unfolding seek_number
-        number_zero n r h = rw (drop_next s at p, asked _ false t, eq-eqb _ _ z, eq-eqb _ _ n, seek_number) h
+        number_zero n r h = rw (drop_next s at p, starts, eq-eqb _ _ z, eq-eqb _ _ n, seek_number) h
 
       module _ (z : get_or s at 0 ≡ 48 → ⊥) (x : ℕ) (e : x ≡ get_or s at 0 - 48) (k : Bool) (b : k ≡ grows hi lo hi x) where
         -- Another digit, but no number of the range begins so.
-        pub number_wrong : not k ≡ true → At s G wrong at
+        pub number_wrong : k ≡ false → At s G wrong at
         unfolding seek_number
         number_wrong n =
-            let f : grows hi lo hi (get_or s at 0 - 48) ≡ false = rw (← e) (sym b ∙ not-true k n) in
-            record { inside = omega arith; is = rw (drop_next s at p, asked _ false t, ne_eqb _ _ z, f, seek_number) }
+            let f : grows hi lo hi (get_or s at 0 - 48) ≡ false = rw (← e) (sym b ∙ n) in
+            record { inside = omega arith; is = rw (drop_next s at p, starts, ne_eqb _ _ z, f, seek_number) }
 
         -- Another digit: the bytes behind it decide.
-        pub number_more : not k ≡ false → (r : NumberAt) → SpottedNumber s (seek_more lo hi end x (drop (at + 1) s)) r → SpottedNumber s G r
+        pub number_more : k ≡ true → (r : Result Number Wrong) → SpottedNumber s (seek_more lo hi end x (drop (at + 1) s)) r → SpottedNumber s G r
         unfolding seek_number
         number_more n r h =
-            let f : grows hi lo hi (get_or s at 0 - 48) ≡ true = rw (← e) (sym b ∙ not-false k n) in
-            rw (drop_next s at p, asked _ false t, ne_eqb _ _ z, f, ← e, seek_number) h
+            let f : grows hi lo hi (get_or s at 0 - 48) ≡ true = rw (← e) (sym b ∙ n) in
+            rw (drop_next s at p, starts, ne_eqb _ _ z, f, ← e, seek_number) h

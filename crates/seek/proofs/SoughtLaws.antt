@@ -1,46 +1,49 @@
 -- What an answer says once its case is known, and what two seekers find one behind the other, from what the first one found. Assumes nothing.
-use Prim.Native.Nat.{ℕ, ◌≤◌}
+use Rattle.std.specs.Prelude.{Result, Ok, Err, MatchResult}
+use Rattle.std.specs.Result.{IsErrAnd}
+use Prim.Native.Nat.{ℕ}
+use native.Mathlib.Omega.{arith}
 use mathlib.Core.List.{List}
-use mathlib.Core.Path.{◌≡◌, refl, ◌∙◌, ap, subst}
-use lib.ListN.{length, drop}
+use mathlib.Core.Path.{◌≡◌, refl, sym, ◌∙◌, ap, subst}
+use lib.ListN.{length, drop, length-drop}
 use Rattle.text.specs.Found.{Found}
 use Rattle.text.specs.Reader.{Got}
+use Rattle.text.specs.declared.Number.{Number}
 use Rattle.begins.specs.Seek.{Sought, found, wrong, Seeker, on, rest_of}
 use Rattle.seek.specs.Spotted.{At, SpottedText, SpottedNumber, Ends, Missed, ReadNumber, ReadText}
-use Rattle.seek.specs.declared.NumberAt.{NumberAt}
-use Rattle.seek.specs.declared.NumberAt.TheVariants.{Is, Wrong}
-use Rattle.seek.specs.declared.TextAt.{TextAt}
-use Rattle.seek.specs.declared.TextAt.TheVariants.{Is as TextAt-as-Is, Wrong as TextAt-as-Wrong}
+use Rattle.seek.specs.declared.Wrong.{Wrong}
 
 -- ---- once the case is known
 
 -- A text.
-module _ (s : List ℕ) (g : Sought (Unit {0})) (x : TextAt) (h : SpottedText s g x) where
+module _ (s : List ℕ) (g : Sought (Unit {0})) (x : Result ℕ Wrong) (h : SpottedText s g x) where
   -- It was found.
-  pub text_is : {n : ℕ} → x ≡ TextAt-as-Is n → At s g (found tt) n
-  text_is e = subst (λ (y : TextAt). SpottedText s g y) e h
-
-  -- It ends inside the text.
-  pub text_inside : {n : ℕ} → x ≡ TextAt-as-Is n → n ≤ length s
-  text_inside e = (text_is e).inside
+  pub text_is : {n : ℕ} → x ≡ Ok n → At s g (found tt) n
+  text_is e = subst (λ (y : Result ℕ Wrong). SpottedText s g y) e h
 
   -- It is wrong.
-  pub text_wrong : {n : ℕ} → x ≡ TextAt-as-Wrong n → At s g wrong n
-  text_wrong e = subst (λ (y : TextAt). SpottedText s g y) e h
+  pub text_wrong : {w : Wrong} → x ≡ Err w → At s g wrong w.place
+  text_wrong e = subst (λ (y : Result ℕ Wrong). SpottedText s g y) e h
 
 -- A number.
-module _ (s : List ℕ) (g : Sought ℕ) (x : NumberAt) (h : SpottedNumber s g x) where
+module _ (s : List ℕ) (g : Sought ℕ) (x : Result Number Wrong) (h : SpottedNumber s g x) where
   -- It was found.
-  pub number_is : {v n : ℕ} → x ≡ Is v n → At s g (found v) n
-  number_is e = subst (λ (y : NumberAt). SpottedNumber s g y) e h
-
-  -- It ends inside the text.
-  pub number_inside : {v n : ℕ} → x ≡ Is v n → n ≤ length s
-  number_inside e = (number_is e).inside
+  pub number_is : {v : Number} → x ≡ Ok v → At s g (found v.value) v.next
+  number_is e = subst (λ (y : Result Number Wrong). SpottedNumber s g y) e h
 
   -- It is wrong.
-  pub number_wrong : {n : ℕ} → x ≡ Wrong n → At s g wrong n
-  number_wrong e = subst (λ (y : NumberAt). SpottedNumber s g y) e h
+  pub number_wrong : {w : Wrong} → x ≡ Err w → At s g wrong w.place
+  number_wrong e = subst (λ (y : Result Number Wrong). SpottedNumber s g y) e h
+
+-- ---- an error, as `?` passes it on
+
+pub text_err : (s : List ℕ) (g : Sought (Unit {0})) (w : Wrong) (x : Result ℕ Wrong) → IsErrAnd x (λ e. e ≡ w) → At s g wrong w.place → SpottedText s g x
+text_err s g w (Ok n) h a = absurd h
+text_err s g w (Err e) h a = rw h a
+
+pub number_err : (s : List ℕ) (g : Sought ℕ) (w : Wrong) (x : Result Number Wrong) → IsErrAnd x (λ e. e ≡ w) → At s g wrong w.place → SpottedNumber s g x
+number_err s g w (Ok v) h a = absurd h
+number_err s g w (Err e) h a = rw h a
 
 -- ---- one behind the other
 
@@ -72,25 +75,27 @@ module _ {A : Type 0} {s : List ℕ} {g : Sought A} {n : ℕ} where
   pub ends_same : {B : Type 0} {h : Sought B} → rest_of h ≡ rest_of g → Ends s g n → Ends s h n
   ends_same e w = record { inside = w.inside; is = e ∙ w.is }
 
--- A text.
-module _ (s : List ℕ) (g : Sought (Unit {0})) (x : TextAt) (h : SpottedText s g x) where
-  -- It was found.
-  pub text_past : {n : ℕ} → x ≡ TextAt-as-Is n → Ends s g n
-  text_past e = ends_found (text_is s g x h e)
+-- There is one such place.
+pub ends_one : {A : Type 0} {s : List ℕ} {g : Sought A} {n m : ℕ} → Ends s g n → Ends s g m → n ≡ m
+ends_one {s = s} {n = n} {m = m} v w =
+    let same = sym v.is ∙ w.is in omega (arith, ap length same, length-drop n s, length-drop m s, v.inside, w.inside)
 
-  -- It is wrong.
-  pub text_stop : {n : ℕ} → x ≡ TextAt-as-Wrong n → Ends s g n
-  text_stop e = ends_wrong (text_wrong s g x h e)
+-- Either place of an answer.
+pub text_ends
+    : (s : List ℕ) (g : Sought (Unit {0})) (x : Result ℕ Wrong) (n : ℕ)
+    → SpottedText s g x
+    → MatchResult x (λ m. n ≡ m) (λ w. n ≡ w.place)
+    → Ends s g n
+text_ends s g (Ok m) n h e = rw e (ends_found h)
+text_ends s g (Err w) n h e = rw e (ends_wrong h)
 
--- A number.
-module _ (s : List ℕ) (g : Sought ℕ) (x : NumberAt) (h : SpottedNumber s g x) where
-  -- It was found.
-  pub number_past : {v n : ℕ} → x ≡ Is v n → Ends s g n
-  number_past e = ends_found (number_is s g x h e)
-
-  -- It is wrong.
-  pub number_stop : {n : ℕ} → x ≡ Wrong n → Ends s g n
-  number_stop e = ends_wrong (number_wrong s g x h e)
+pub number_ends
+    : (s : List ℕ) (g : Sought ℕ) (x : Result Number Wrong) (n : ℕ)
+    → SpottedNumber s g x
+    → MatchResult x (λ v. n ≡ v.next) (λ w. n ≡ w.place)
+    → Ends s g n
+number_ends s g (Ok v) n h e = rw e (ends_found h)
+number_ends s g (Err w) n h e = rw e (ends_wrong h)
 
 -- What is only told ends where it was found.
 pub rest_told : {A B : Type 0} (f : A → B) (g : Sought A) → rest_of (on g (λ a. found (f a))) ≡ rest_of g
@@ -107,21 +112,21 @@ rest_told_two f h (wrong r) = refl
 -- ---- what a reader reads
 
 -- A text.
-module _ {A : Type 0} (s : List ℕ) (g : Got (Unit {0})) (o : Sought A) (x : TextAt) (h : ReadText s g o x) where
+module _ {A : Type 0} (s : List ℕ) (g : Got (Unit {0})) (o : Sought A) (x : Result ℕ Wrong) (h : ReadText s g o x) where
   -- It was read.
-  pub text_read : {n : ℕ} → x ≡ TextAt-as-Is n → Found s g tt n
-  text_read e = subst (λ (y : TextAt). ReadText s g o y) e h
+  pub text_read : {n : ℕ} → x ≡ Ok n → Found s g tt n
+  text_read e = subst (λ (y : Result ℕ Wrong). ReadText s g o y) e h
 
   -- It was not.
-  pub text_missed : {p : ℕ} → x ≡ TextAt-as-Wrong p → Missed s g o p
-  text_missed e = subst (λ (y : TextAt). ReadText s g o y) e h
+  pub text_missed : {w : Wrong} → x ≡ Err w → Missed s g o w.place
+  text_missed e = subst (λ (y : Result ℕ Wrong). ReadText s g o y) e h
 
 -- A number.
-module _ {A : Type 0} (s : List ℕ) (g : Got ℕ) (o : Sought A) (x : NumberAt) (h : ReadNumber s g o x) where
+module _ {A : Type 0} (s : List ℕ) (g : Got ℕ) (o : Sought A) (x : Result Number Wrong) (h : ReadNumber s g o x) where
   -- It was read.
-  pub read_is : {v n : ℕ} → x ≡ Is v n → Found s g v n
-  read_is e = subst (λ (y : NumberAt). ReadNumber s g o y) e h
+  pub read_is : {v : Number} → x ≡ Ok v → Found s g v.value v.next
+  read_is e = subst (λ (y : Result Number Wrong). ReadNumber s g o y) e h
 
   -- It was not.
-  pub read_wrong : {p : ℕ} → x ≡ Wrong p → Missed s g o p
-  read_wrong e = subst (λ (y : NumberAt). ReadNumber s g o y) e h
+  pub read_wrong : {w : Wrong} → x ≡ Err w → Missed s g o w.place
+  read_wrong e = subst (λ (y : Result Number Wrong). ReadNumber s g o y) e h

@@ -5,51 +5,38 @@
 ghost use Rattle.std.specs.Prelude.{◌≡◌, ◌<◌, ◌≤◌, length, drop};
 ghost use Rattle.begins.specs.Seek.{seek_literal};
 ghost use Rattle.begins.specs.Digits.{grows, seek_end, seek_more, seek_number};
-ghost use Rattle.seek.specs.Spotted.{SpottedText, SpottedNumber, Ends, ended_at};
+ghost use Rattle.seek.specs.Spotted.{SpottedText, SpottedNumber, Ends, same_bytes, ended_at};
 
-// The byte of the digit 9, the last.
-pub const NINE: u8 = 57;
+use text::{Bounds, Number};
 
-// The place past a text; or that of the first wrong byte.
-#[derive(Clone, Copy)]
-pub enum TextAt {
-    Is { next: usize },
-    Wrong { place: usize },
-}
-
-// A number, and the place past its text; or that of the first wrong byte.
-#[derive(Clone, Copy)]
-pub enum NumberAt {
-    Is { value: u32, next: usize },
-    Wrong { place: usize },
-}
-
-pub fn wide(x: u8) -> u64
-    ensures { result ≡ x }
-{
-    x as u64
+// The text is wrong, first at the byte that stands here.
+#[derive(Clone, Copy, Debug, PartialEq, Eq)]
+pub struct Wrong {
+    pub place: usize,
 }
 
 // ---- literals
 
-// The bytes of `key` from `at` on.
-pub fn literal_at(s: &[u8], at: usize, key: &[u8]) -> TextAt
+// How many bytes of `key` the text begins with.
+#[tactic(auto, using(crate::proofs::LiteralLaws::same_fits))]
+fn same_bytes(text: &[u8], key: &[u8]) -> usize
+    ensures value { result ≡ same_bytes key.now text.now }
+    ensures bound { result ≤ length text.now }
+{
+    key.iter().zip(text).take_while(|(k, c)| k == c).count()
+}
+
+// The place past the bytes of `key`, which are looked for from `at` on.
+pub fn literal_at(s: &[u8], at: usize, key: &[u8]) -> Result<usize, Wrong>
     requires { at ≤ length s.now }
     ensures { SpottedText s.now (seek_literal key.now (drop at s.now)) result }
 {
-    let mut i = at;
-    let mut j: usize = 0;
-    while j < key.len() {
-        if s.len() <= i {
-            return TextAt::Wrong { place: i };
-        }
-        if s[i] != key[j] {
-            return TextAt::Wrong { place: i };
-        }
-        i += 1;
-        j += 1;
+    let many = same_bytes(&s[at..], key);
+    if many == key.len() {
+        Ok(at + many)
+    } else {
+        Err(Wrong { place: at + many })
     }
-    TextAt::Is { next: i }
 }
 
 // The place past a literal, or that of its first wrong byte.
@@ -57,122 +44,103 @@ pub fn literal_place(s: &[u8], at: usize, key: &[u8]) -> usize
     requires { at ≤ length s.now }
     ensures { Ends s.now (seek_literal key.now (drop at s.now)) result }
 {
-    match literal_at(s, at, key) {
-        TextAt::Is { next } => next,
-        TextAt::Wrong { place } => place,
-    }
+    literal_at(s, at, key).unwrap_or_else(|wrong| wrong.place)
 }
 
 // ---- decimal numbers
 
-// Whether some number of lo..hi begins with the digits of v.
-fn can_grow(lo: u32, hi: u32, v: u64) -> bool
+// Whether some number of the range begins with the digits of v.
+// (No `for`: nothing is counted here. Both ends lose a digit until v is among them or above.)
+fn can_grow(range: Bounds, v: u64) -> bool
     requires { 1 ≤ v }
-    ensures { result ≡ grows hi lo hi v }
+    ensures { result ≡ grows range.hi range.lo range.hi v }
 {
-    let mut l = lo as u64;
-    let mut h = hi as u64;
+    let mut l = u64::from(range.lo);
+    let mut h = u64::from(range.hi);
     while v <= h {
         if l <= v {
             return true;
         }
-        l = l / 10;
-        h = h / 10;
+        l /= 10;
+        h /= 10;
     }
     false
 }
 
-// What is found at the byte c at i, which is no digit, behind the digits of v.
-fn ended(c: u8, i: usize, lo: u32, hi: u32, end: u8, v: u32) -> NumberAt
-    requires { i < 18_446_744_073_709_551_615 }
-    ensures { result ≡ ended_at c i lo hi end v }
+// What is found at the byte c at a place, which is no digit, behind the digits of v.
+#[tactic(auto, unfolding(crate::specs::Spotted::ended_at))]
+fn ended(c: u8, place: usize, range: Bounds, end: u8, v: u32) -> Result<Number, Wrong>
+    requires { place < 18_446_744_073_709_551_615 }
+    ensures { result ≡ ended_at c place range.lo range.hi end v }
 {
-    if c != end {
-        return NumberAt::Wrong { place: i };
-    }
-    if v < lo {
-        return NumberAt::Wrong { place: i };
-    }
-    if hi < v {
-        return NumberAt::Wrong { place: i };
-    }
-    NumberAt::Is {
-        value: v,
-        next: i + 1,
+    if c == end && range.contains(v) {
+        Ok(Number {
+            value: v,
+            next: place + 1,
+        })
+    } else {
+        Err(Wrong { place })
     }
 }
 
 // Behind the digits of `first`.
-fn more_at(s: &[u8], at: usize, lo: u32, hi: u32, end: u8, first: u32) -> NumberAt
-    requires { (at ≤ length s.now) × (1 ≤ first) × (first ≤ hi) }
-    ensures { SpottedNumber s.now (seek_more lo hi end first (drop at s.now)) result }
+// (The index is the place that is answered: `iter().enumerate().skip(at)` would be no shorter.)
+fn more_at(s: &[u8], at: usize, range: Bounds, end: u8, first: u32) -> Result<Number, Wrong>
+    requires { (at ≤ length s.now) × (1 ≤ first) × (first ≤ range.hi) }
+    ensures { SpottedNumber s.now (seek_more range.lo range.hi end first (drop at s.now)) result }
 {
-    let mut v = first as u64;
-    let mut i = at;
-    while i < s.len() {
-        let c = s[i];
-        if (c < text::ZERO) | (NINE < c) {
-            return ended(c, i, lo, hi, end, v as u32);
+    let mut value = first;
+    for place in at..s.len() {
+        let c = s[place];
+        if !c.is_ascii_digit() {
+            return ended(c, place, range, end, value);
         }
-        let w = v * 10 + wide(c - text::ZERO);
-        if !can_grow(lo, hi, w) {
-            return NumberAt::Wrong { place: i };
+        let longer = u64::from(value) * 10 + u64::from(c - b'0');
+        if !can_grow(range, longer) {
+            return Err(Wrong { place });
         }
-        v = w;
-        i += 1;
+        value = longer as u32;
     }
-    NumberAt::Wrong { place: i }
+    Err(Wrong { place: s.len() })
 }
 
 // The byte `end`, behind the digit 0.
-fn zero_at(s: &[u8], at: usize, end: u8) -> NumberAt
+fn zero_at(s: &[u8], at: usize, end: u8) -> Result<Number, Wrong>
     requires { at ≤ length s.now }
     ensures { SpottedNumber s.now (seek_end end (drop at s.now)) result }
 {
-    if s.len() <= at {
-        return NumberAt::Wrong { place: at };
-    }
-    if s[at] != end {
-        return NumberAt::Wrong { place: at };
-    }
-    NumberAt::Is {
-        value: 0,
-        next: at + 1,
-    }
+    let next = literal_at(s, at, &[end])?;
+    Ok(Number { value: 0, next })
 }
 
-// A number in lo..hi that the byte `end` ends.
-pub fn number_at(s: &[u8], at: usize, lo: u32, hi: u32, end: u8) -> NumberAt
+// A number in a range that the byte `end` ends.
+pub fn number_at(s: &[u8], at: usize, range: Bounds, end: u8) -> Result<Number, Wrong>
     requires { at ≤ length s.now }
-    ensures { SpottedNumber s.now (seek_number lo hi end (drop at s.now)) result }
+    ensures { SpottedNumber s.now (seek_number range.lo range.hi end (drop at s.now)) result }
 {
-    if s.len() <= at {
-        return NumberAt::Wrong { place: at };
+    let wrong = Wrong { place: at };
+    let c = *s.get(at).ok_or(wrong)?;
+    if !c.is_ascii_digit() {
+        return Err(wrong);
     }
-    let c = s[at];
-    if (c < text::ZERO) | (NINE < c) {
-        return NumberAt::Wrong { place: at };
-    }
-    if c == text::ZERO {
-        if lo != 0 {
-            return NumberAt::Wrong { place: at };
+    if c == b'0' {
+        if range.lo != 0 {
+            return Err(wrong);
         }
         return zero_at(s, at + 1, end);
     }
-    let first = wide(c - text::ZERO);
-    if !can_grow(lo, hi, first) {
-        return NumberAt::Wrong { place: at };
+    let first = u32::from(c - b'0');
+    if !can_grow(range, u64::from(first)) {
+        return Err(wrong);
     }
-    more_at(s, at + 1, lo, hi, end, first as u32)
+    more_at(s, at + 1, range, end, first)
 }
 
 // The place past a number, or that of its first wrong byte.
-pub fn number_place(s: &[u8], at: usize, lo: u32, hi: u32, end: u8) -> usize
+// (Like `literal_place` but for what is looked for: one line each.)
+pub fn number_place(s: &[u8], at: usize, range: Bounds, end: u8) -> usize
     requires { at ≤ length s.now }
-    ensures { Ends s.now (seek_number lo hi end (drop at s.now)) result }
+    ensures { Ends s.now (seek_number range.lo range.hi end (drop at s.now)) result }
 {
-    match number_at(s, at, lo, hi, end) {
-        NumberAt::Is { value: _, next } => next,
-        NumberAt::Wrong { place } => place,
-    }
+    number_at(s, at, range, end).map_or_else(|wrong| wrong.place, |number| number.next)
 }

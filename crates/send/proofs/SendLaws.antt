@@ -12,14 +12,14 @@ use Rattle.kinds.specs.declared.Term.{Term}
 use Rattle.kinds.specs.Of.{place, term}
 use Rattle.kinds.specs.Sizes.{Who, is_hub, text_room}
 use Rattle.kinds.specs.Role.{as_leader}
-use Rattle.kinds.specs.Packed.{packed}
-use Rattle.command.specs.Entry.{Entry}
+use Rattle.kinds.specs.declared.Refusal.TheVariants.{WrongRole, OutOfRange}
+use Rattle.std.specs.Prelude.{Ok, Err}
 use Rattle.message.specs.Message.{entries_of, append}
 use Rattle.message.specs.Legal.{legal_message}
 use Rattle.message.specs.declared.Body.TheVariants.{Append}
 use Rattle.state.specs.declared.Head.{Head}
 use Rattle.state.specs.Image.{state_in}
-use Rattle.rules.specs.Outcome.{done, goes, wrong_role, out_of_range}
+use Rattle.rules.specs.Outcome.{goes}
 use Rattle.rules.specs.Events.{term_at, says, sends, send}
 use Rattle.kinds.proofs.BoolLaws.{or_second}
 use Rattle.rules.proofs.Fair.{Fair}
@@ -36,25 +36,19 @@ use Rattle.say.proofs.GivesLaws.{refused_gives, said_gives, tested_leader, teste
 
 -- ---- an append with the term at prev, the chosen count and the entries after prev
 
--- There is no entry at place 0.
-pub term_at_none : (log : List Entry) {p : ℕ} → p ≡ 0 → term_at log p ≡ 0
-unfolding term_at
-term_at_none log e = rw e
-
-module _ (w : Who) (h : Head) (l : List ℕ) (peer prev : ℕ) (out : List ℕ) (a : Sending w h l peer prev out) {t : Term}
+module _ (w : Who) (h : Head) (l : List ℕ) (k : Tested w h l) (peer prev : ℕ) (out : List ℕ) (a : Sending w l peer prev out) {t : Term}
     (known : t ≡ term (term_at (state_in l).kept.log prev)) where
   sent : says w (state_in l) peer (append prev t.0 h.chosen.0 (drop prev (state_in l).kept.log)) ≡ sends w (state_in l) peer prev
   unfolding sends
-  sent = rw (known, ap (λ (x : Head). x.chosen.0) a.tested.head ∙ ready_chosen w l a.tested.ready)
+  sent = rw (known, ap (λ (x : Head). x.chosen.0) k.head ∙ ready_chosen w l k.ready)
 
   -- It may be written.
-  pub may_send : {count : ℕ} → count ≡ h.length.0 - prev → Speaks w h l peer (Append (place prev) t h.chosen count) prev out
+  pub may_send : {count : ℕ} → count ≡ h.length.0 - prev → Speaks w l peer (Append (place prev) t h.chosen count) prev out
   unfolding entries_of
   may_send n =
       record {
-        tested = a.tested;
-        place = omega (arith, a.place, (tested_kept w h l a.tested).within);
-        counted = omega (arith, n, tested_length w h l a.tested, length-drop prev (state_in l).kept.log);
+        place = omega (arith, a.place, (tested_kept w h l k).within);
+        counted = omega (arith, n, tested_length w h l k, length-drop prev (state_in l).kept.log);
         legal = rw sent a.legal;
         room = a.room;
       }
@@ -69,9 +63,9 @@ module _ (w : Who) (h : Head) (l : List ℕ) (peer prev : ℕ) (out : List ℕ) 
 
 module _ (w : Who) (h : Head) (l : List ℕ) (t : Tested w h l) (peer prev : ℕ) where
   -- Another role.
-  pub send_other : {out : List ℕ} → (h.role ≡ as_leader → ⊥) → Gives (send w (state_in l) peer prev) l out wrong_role l out
+  pub send_other : {out : List ℕ} → (h.role ≡ as_leader → ⊥) → Gives (send w (state_in l) peer prev) l out (Err WrongRole) l out
   unfolding send
-  send_other role = refused_gives (state_in l) l wrong_role (rw (tested_other w h l t role)) (λ z. omega arith)
+  send_other role = refused_gives (state_in l) l WrongRole refl (rw (tested_other w h l t role))
 
   -- No such peer, or no such place in a log of this length.
   abbrev bad : ℕ → Bool
@@ -79,9 +73,9 @@ module _ (w : Who) (h : Head) (l : List ℕ) (t : Tested w h l) (peer prev : ℕ
 
   module _ (role : h.role ≡ as_leader) {refused : Bool} (is : refused ≡ bad h.length.0) where
     -- So it is refused.
-    pub send_bad : {out : List ℕ} → refused ≡ true → Gives (send w (state_in l) peer prev) l out out_of_range l out
+    pub send_bad : {out : List ℕ} → refused ≡ true → Gives (send w (state_in l) peer prev) l out (Err OutOfRange) l out
     unfolding send
-    send_bad b = refused_gives (state_in l) l out_of_range (rw (tested_leader w h l t role, rw (tested_length w h l t) at (sym is ∙ b))) (λ z. omega arith)
+    send_bad b = refused_gives (state_in l) l OutOfRange refl (rw (tested_leader w h l t role, rw (tested_length w h l t) at (sym is ∙ b)))
 
     -- A peer, and a place of the log.
     module _ (good : refused ≡ false) where
@@ -97,14 +91,13 @@ module _ (w : Who) (h : Head) (l : List ℕ) (t : Tested w h l) (peer prev : ℕ
           (fair.sound.writes (sends w s peer prev) refl).legal
 
       -- The append may be written.
-      pub send_sending : {out : List ℕ} → text_room ≤ length out → Sending w h l peer prev out
+      pub send_sending : {out : List ℕ} → text_room ≤ length out → Sending w l peer prev out
       send_sending room =
           let beyond = ltb h.length.0 prev in
           let in_log = or_second (eqb peer w.own) beyond (or_second (not (is_hub w.size peer)) (eqb peer w.own || beyond) (sym is ∙ good)) in
-          record { tested = t; place = omega (arith, ltb-false h.length.0 prev in_log, tested_length w h l t); legal = sends_legal; room = room }
+          record { place = omega (arith, ltb-false h.length.0 prev in_log, tested_length w h l t); legal = sends_legal; room = room }
 
       -- It is written.
       pub send_done :
-          {n r : ℕ} {out out' : List ℕ} → Said (sends w (state_in l) peer prev) out n out' → r ≡ packed done n
-          → Gives (send w (state_in l) peer prev) l out r l out'
-      send_done said = said_gives (state_in l) (sends w (state_in l) peer prev) send_is (sym (ready_image w l t.ready)) said
+          {n : ℕ} {out out' : List ℕ} → Said (sends w (state_in l) peer prev) out n out' → Gives (send w (state_in l) peer prev) l out (Ok n) l out'
+      send_done said = said_gives (state_in l) (sends w (state_in l) peer prev) send_is (sym (ready_image w l t.ready)) sends_legal said

@@ -6,4 +6,4 @@ use Rattle.span.specs.declared.Span.{Span}
 
 unfoldable pub span_of : Opening → Span
 span_of o =
-    record { count = count_in o.type o.numbers; low = low_in o.type o.numbers; high = high_in o.type o.numbers }
+    record { count = count_in o.type o.numbers; terms = record { lo = low_in o.type o.numbers; hi = high_in o.type o.numbers } }

@@ -1,59 +1,49 @@
 // How many entries follow a message's fields, and the range of their terms.
 #![tactic(auto)]
 
-ghost use Rattle.std.specs.Prelude.{◌≡◌, max};
+ghost use Rattle.std.specs.Prelude.{◌≡◌};
 ghost use Rattle.message.specs.Answer.{opening_of};
 ghost use Rattle.span.specs.Span.{span_of};
 
 use message::{Body, Fields};
+use text::Bounds;
 
 // How many entries follow, and the range of their terms.
-#[derive(Clone, Copy)]
+// (No `Option`: two of three callers ask for the count alone, and the definition `span_of` says a range for no entries too.)
+#[derive(Clone, Copy, Debug, PartialEq, Eq)]
 pub struct Span {
     pub count: u32,
-    pub low: u32,
-    pub high: u32,
-}
-
-pub fn at_least_one(x: u32) -> u32
-    ensures { result ≡ max 1 x }
-{
-    if x < 1 { 1 } else { x }
+    pub terms: Bounds,
 }
 
 // The entries that follow these fields.
+#[tactic(auto, unfolding(crate::specs::Span::span_of, message::specs::Fields::count_in, message::specs::Range::low_in, message::specs::Range::high_in))]
 pub fn span_of(f: Fields) -> Span
     ensures { result ≡ span_of (opening_of f) }
 {
-    let body = f.body;
-    let none = Span {
-        count: 0,
-        low: 1,
-        high: 0,
-    };
-    match body {
-        Body::VoteYes {
-            last: _,
-            ballot,
+    match f.body {
+        Body::VoteYes { ballot, count, .. } => Span {
             count,
-        } => Span {
-            count,
-            low: 1,
-            high: ballot.number(),
+            terms: Bounds {
+                lo: 1,
+                hi: ballot.into(),
+            },
         },
         Body::Append {
-            prev: _,
             prevterm,
-            chosen: _,
             count,
+            ..
         } => Span {
             count,
-            low: at_least_one(prevterm.number()),
-            high: f.term.number(),
+            terms: Bounds {
+                lo: u32::from(prevterm).max(1),
+                hi: f.term.into(),
+            },
         },
-        Body::VoteRequest { last: _, ballot: _ } => none,
-        Body::VoteNo => none,
-        Body::AppendYes { end: _ } => none,
-        Body::AppendNo { length: _ } => none,
+        Body::VoteRequest { .. } | Body::VoteNo | Body::AppendYes { .. } | Body::AppendNo { .. } =>
+            Span {
+                count: 0,
+                terms: Bounds { lo: 1, hi: 0 },
+            },
     }
 }

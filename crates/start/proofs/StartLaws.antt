@@ -10,13 +10,15 @@ use Rattle.kinds.specs.declared.Hub.{Hub}
 use Rattle.kinds.specs.Of.{hub}
 use Rattle.kinds.specs.Sizes.{Who, term_most, text_room}
 use Rattle.kinds.specs.Role.{as_leader}
-use Rattle.kinds.specs.Packed.{packed}
+use Rattle.kinds.specs.Caller.{who_in}
+use Rattle.kinds.specs.declared.Caller.{Caller}
+use Rattle.kinds.specs.declared.Refusal.TheVariants.{WrongRole, NoTermLeft}
+use Rattle.std.specs.Prelude.{Ok, Err}
 use Rattle.message.specs.Message.{entries_of, vote_request}
 use Rattle.message.specs.declared.Body.TheVariants.{VoteRequest}
 use Rattle.state.specs.declared.Head.{Head}
 use Rattle.state.specs.Image.{image, state_in}
-use Rattle.state.specs.Head.{head_in}
-use Rattle.rules.specs.Outcome.{done, goes, wrong_role, no_term_left}
+use Rattle.rules.specs.Outcome.{goes}
 use Rattle.rules.specs.Events.{says, started, asks, start}
 use Rattle.rules.proofs.Fair.{Sound}
 use Rattle.rules.proofs.EventsLaws.{start_fair}
@@ -33,18 +35,17 @@ use Rattle.say.proofs.GivesLaws.{refused_gives, said_gives, tested_leader, teste
 
 -- ---- a request to all, with the log's length and the ballot
 
-module _ (w : Who) (h : Head) (l out : List ℕ) (a : Asking w h l out) {to : Hub} (all : to ≡ hub 0) where
+module _ (w : Who) (h : Head) (l : List ℕ) (t : Tested w h l) (out : List ℕ) (a : Asking w l out) {to : Hub} (all : to ≡ hub 0) where
   asked : says w (state_in l) to.0 (vote_request h.length.0 h.ballot.0) ≡ asks w (state_in l)
   unfolding asks
-  asked = rw (all, tested_length w h l a.tested, tested_ballot w h l a.tested)
+  asked = rw (all, tested_length w h l t, tested_ballot w h l t)
 
   -- It may be written.
-  pub may_ask : Speaks w h l to.0 (VoteRequest h.length h.ballot) h.length.0 out
+  pub may_ask : Speaks w l to.0 (VoteRequest h.length h.ballot) h.length.0 out
   unfolding entries_of
   may_ask =
       record {
-        tested = a.tested;
-        place = tested_within w h l a.tested;
+        place = tested_within w h l t;
         counted = refl;
         legal = rw asked a.legal;
         room = a.room;
@@ -60,17 +61,17 @@ module _ (w : Who) (h : Head) (l out : List ℕ) (a : Asking w h l out) {to : Hu
 
 module _ (w : Who) (h : Head) (l : List ℕ) (t : Tested w h l) where
   -- A leader.
-  pub start_leader : {out : List ℕ} → h.role ≡ as_leader → Gives (start w (state_in l)) l out wrong_role l out
+  pub start_leader : {out : List ℕ} → h.role ≡ as_leader → Gives (start w (state_in l)) l out (Err WrongRole) l out
   unfolding start
-  start_leader role = refused_gives (state_in l) l wrong_role (rw (tested_leader w h l t role)) (λ z. omega arith)
+  start_leader role = refused_gives (state_in l) l WrongRole refl (rw (tested_leader w h l t role))
 
   module _ (role : h.role ≡ as_leader → ⊥) where
     -- The last term.
-    pub start_last : {out : List ℕ} → h.term.0 ≡ term_most → Gives (start w (state_in l)) l out no_term_left l out
+    pub start_last : {out : List ℕ} → h.term.0 ≡ term_most → Gives (start w (state_in l)) l out (Err NoTermLeft) l out
     unfolding start
     start_last last =
         let s = state_in l in
-        refused_gives s l no_term_left (rw (tested_other w h l t role, eq-eqb s.kept.term term_most (sym (tested_term w h l t) ∙ last))) (λ z. omega arith)
+        refused_gives s l NoTermLeft refl (rw (tested_other w h l t role, eq-eqb s.kept.term term_most (sym (tested_term w h l t) ∙ last)))
 
     -- A term that is not the last.
     pub may_start : (h.term.0 ≡ term_most → ⊥) → Starts w h l
@@ -96,16 +97,16 @@ module _ (w : Who) (h : Head) (l : List ℕ) (k : Starts w h l) where
     pub start_ready : Ready w l'
     start_ready = risen.0
 
-    -- The request may be written.
-    pub start_asking : {h' : Head} {out : List ℕ} → h' ≡ head_in l' → text_room ≤ length out → Asking w h' l' out
-    start_asking e room =
-        record {
-          tested = record { ready = risen.0; head = e };
-          legal = rw risen.1 (start_sound.writes (asks w (started w (state_in l))) refl).legal;
-          room = room;
-        }
+    -- The request may be written, by who is called at these bytes.
+    pub start_asking : {g : Caller} {now : List ℕ} → who_in g ≡ w → now ≡ l' → {out : List ℕ} → text_room ≤ length out → Asking (who_in g) now out
+    start_asking same here room =
+        rw (same, here)
+        (record { legal = rw risen.1 (start_sound.writes (asks w (started w (state_in l))) refl).legal; room = room })
 
     -- It is written.
     pub start_done :
-        {n r : ℕ} {out out' : List ℕ} → Said (asks w (state_in l')) out n out' → r ≡ packed done n → Gives (start w (state_in l)) l out r l' out'
-    start_done said = said_gives (started w (state_in l)) (asks w (started w (state_in l))) start_is left (rw risen.1 at said)
+        {g : Caller} {now : List ℕ} → who_in g ≡ w → now ≡ l' → {n : ℕ} {out out' : List ℕ} → Said (asks (who_in g) (state_in now)) out n out'
+        → Gives (start w (state_in l)) l out (Ok n) l' out'
+    start_done same here said =
+        let request = asks w (started w (state_in l)) in
+        said_gives (started w (state_in l)) request start_is left (start_sound.writes request refl).legal (rw (same, here, risen.1) at said)

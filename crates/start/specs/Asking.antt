@@ -2,13 +2,10 @@
 use Rattle.std.specs.Prelude.{ℕ, ◌≤◌, ◌≡◌, true, List, length}
 use Rattle.kinds.specs.Sizes.{Who, text_room}
 use Rattle.message.specs.Legal.{legal_message}
-use Rattle.state.specs.declared.Head.{Head}
 use Rattle.state.specs.Image.{state_in}
 use Rattle.rules.specs.Events.{asks}
-use Rattle.promise.specs.Append.{Tested}
 
--- Its bytes are ready, with this head; the request is legal, and the output has its room.
-pub record Asking (w : Who) (h : Head) (l out : List ℕ) : Type 0 where
-  pub tested : Tested w h l
+-- The request is legal, and the output has its room.
+pub record Asking (w : Who) (l out : List ℕ) : Type 0 where
   pub legal : legal_message (asks w (state_in l)) ≡ true
   pub room : text_room ≤ length out

@@ -2,14 +2,14 @@
 -- fit their bytes. Assumes nothing.
 use Prim.Native.Nat.{ℕ, zero, suc, ◌+◌, ◌-◌, ◌≤◌, ◌<◌}
 use native.Mathlib.Omega.{arith}
-use native.Mathlib.Numerals.{add-one}
-use mathlib.Core.Path.{◌≡◌, refl, ◌∙◌}
+use mathlib.Core.Path.{◌≡◌, refl, sym, ◌∙◌}
 use mathlib.Core.Bool.{Bool, true, false, cond, not, ◌||◌}
 use mathlib.Core.List.{List, [], ◌∷◌, map, ◌++◌}
 use borrow.Author.Tests.{eqb-true, leb-true, ltb-true, eq-eqb, le-leb, lt-ltb, eqb-false, not-true, not-false}
 use lib.Dec.{eqb, leb, ltb}
-use lib.ListN.{length, drop, get_or, length-append, length-map, drop_of_length-le}
-use lib.Seq.{drop-cons}
+use lib.ListN.{length, drop, get_or, length-append, length-map}
+use Rattle.std.specs.List.{list_all, count_by}
+use Rattle.std.proofs.lemmas.List.Recursion.{is_count_by}
 use Rattle.kinds.specs.Sizes.{Who, hubs_most, majority, limit, term_most}
 use Rattle.kinds.specs.Of.{place}
 use Rattle.kinds.proofs.SizesLaws.{limit_small}
@@ -33,38 +33,19 @@ unfolding all
 all_map P Q f i [] h = refl
 all_map P Q f i (x ∷ xs) h = and_both (i x (and_first (P x) (all P xs) h)) (all_map P Q f i xs (and_second (P x) (all P xs) h))
 
-module _ {A : Type 0} (P : A → Bool) (xs : List A) (i : ℕ) (d : A) where
-  -- A scan of a list from place i: a member without the property.
-  pub all_stops : i < length xs → P (get_or xs i d) ≡ false → all P (drop i xs) ≡ false
-  unfolding all
-  all_stops h e = rw (drop-cons xs i d h, e)
-
-  -- A member with it: the rest decides.
-  pub all_goes : i < length xs → P (get_or xs i d) ≡ true → all P (drop i xs) ≡ all P (drop (i + 1) xs)
-  unfolding all
-  all_goes h e = rw (drop-cons xs i d h, e, add-one)
-
--- No member is left.
-pub all_ends : {A : Type 0} (P : A → Bool) (xs : List A) (i : ℕ) → length xs ≤ i → all P (drop i xs) ≡ true
+-- The library's words: what a chain of iterators asks of all members, and how many it counts.
+pub all_is : {A : Type 0} (P : A → Bool) (xs : List A) → list_all P xs ≡ all P xs
 unfolding all
-all_ends P xs i h = rw (drop_of_length-le xs h)
+all_is P [] = refl
+all_is P (x ∷ xs) = rw (all_is P xs)
 
-one_or_none : (v : Bool) (n : ℕ) → ◌≡◌ {A = ℕ} (elim v [ true ↦ 1 + n | false ↦ n ]) (cond v 1 0 + n)
-one_or_none true n = refl
-one_or_none false n = omega arith
-
--- A scan that counts: one member more.
-pub count_goes : (vs : List Bool) (i : ℕ) (v : Bool) →
-    i < length vs →
-    get_or vs i false ≡ v →
-    count (λ b. b) (drop i vs) ≡ cond v 1 0 + count (λ b. b) (drop (i + 1) vs)
+pub count_is : {A : Type 0} (P : A → Bool) (xs : List A) → count_by P xs ≡ count P xs
 unfolding count
-count_goes vs i v h e = rw (drop-cons vs i false h, add-one, e) (one_or_none v (count (λ b. b) (drop (suc i) vs)))
-
--- No member is left to count.
-pub count_ends : (vs : List Bool) (i : ℕ) → length vs ≤ i → count (λ b. b) (drop i vs) ≡ 0
-unfolding count
-count_ends vs i h = rw (drop_of_length-le vs h)
+count_is P xs = sym (is_count_by (count P) P refl (λ x xs. one_more (P x) (count P xs)) xs)
+  where
+    one_more : (v : Bool) (n : ℕ) → ◌≡◌ {A = ℕ} (elim v [ true ↦ 1 + n | false ↦ n ]) (cond v (1 + n) n)
+    one_more true n = refl
+    one_more false n = refl
 
 -- Each member of a list whose members all have a property.
 pub all_member : {A : Type 0} (P : A → Bool) (xs : List A) (i : ℕ) (d : A) → i < length xs → all P xs ≡ true → P (get_or xs i d) ≡ true

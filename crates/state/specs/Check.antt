@@ -15,10 +15,6 @@ unfoldable pub is_some : {A : Type 0} → Option A → Bool
 is_some none = false
 is_some (some x) = true
 
--- Hub own of a group of this size.
-abbrev pub who : ℕ → ℕ → Who
-who size own = record { size = size; own = own }
-
 -- From a place on, n log rows of a hub with this ballot are legal; terms from low on.
 unfoldable pub legal_log : ℕ → ℕ → ℕ → List ℕ → Bool
 legal_log low ballot n l = legal_entries low ballot (rows_in entry_of n l)

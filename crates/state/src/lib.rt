@@ -4,6 +4,7 @@
 #![tactic(auto)]
 
 ghost use Rattle.std.specs.Prelude.{◌≡◌, ◌-◌};
+ghost use Rattle.kinds.specs.Hubs.{for_hub};
 ghost use Rattle.state.specs.Image.{state_size};
 
 use kinds::{Hub, Place, Term};
@@ -11,7 +12,8 @@ use kinds::{Hub, Place, Term};
 // The bytes of the head.
 pub const HEAD: usize = 56;
 
-// The head of a state. Log and gathered rows stay in the lent bytes.
+// The head of a state. Log and gathered rows stay in the lent bytes. The role is a byte and no enum, since a head is what any bytes hold (`head_in`).
+// (Two lists of seven: document 01 asks for the lengths as an array (docs/FORMS.md), and the voters stand in the bytes so too.)
 #[derive(Clone, Copy)]
 pub struct Head {
     pub term: Term,
@@ -28,11 +30,18 @@ pub struct Head {
 pub fn index_of(hub: Hub) -> usize
     ensures { result ≡ hub.0 - 1 }
 {
-    let n = hub.number();
-    if n == 0 { 0 } else { (n - 1) as usize }
+    u32::from(hub).saturating_sub(1) as usize
+}
+
+// What stands for a hub in a list of seven; none beyond it.
+pub fn for_hub<T: Copy>(list: &[T; 7], hub: Hub, none: T) -> T
+    ensures { result ≡ for_hub list.now hub.0 none }
+{
+    list.get(index_of(hub)).copied().unwrap_or(none)
 }
 
 // How many bytes a state has.
+#[tactic(auto, unfolding(crate::specs::Image::state_size))]
 pub fn state_bytes() -> usize
     ensures { result ≡ state_size }
 {

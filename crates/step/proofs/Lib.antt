@@ -1,2 +1,2 @@
 pub mod StepLaws
-pub mod EdgeLaws
+pub mod ActsLaws

@@ -1,267 +1,218 @@
--- Laws of the whole call: what the step is behind each answer of the gate, for each event. Assumes nothing.
-use Prim.Native.Nat.{ℕ, zero, suc, ◌≤◌, ◌<◌}
+-- Laws of the whole call: what the step is behind each answer of the gate. Assumes nothing.
+use Prim.Native.Nat.{ℕ, ◌≤◌}
 use native.Mathlib.Omega.{arith}
-use mathlib.Core.Path.{◌≡◌, refl, sym, ◌∙◌}
+use mathlib.Core.Path.{◌≡◌, refl, sym, ◌∙◌, ap, subst}
 use mathlib.Core.Bool.{Bool, true, false, cond, ◌&&◌}
 use mathlib.Core.List.{List}
 use mathlib.Core.Option.{Option, none, some}
-use borrow.Author.Tests.{ne_eqb, leb-true, ltb-false}
-use lib.Dec.{leb, ltb}
+use borrow.Author.Tests.{ltb-false}
+use lib.Dec.{ltb}
 use lib.ListN.{length}
-use Rattle.kinds.specs.Sizes.{Who, between, is_size, is_hub, text_room}
-use Rattle.kinds.proofs.BetweenLaws.{between_true}
-use Rattle.command.specs.Proposal.{read_proposal}
-use Rattle.message.specs.Text.{read}
+use Rattle.std.specs.Prelude.{Result, Ok, Err}
+use Rattle.kinds.specs.Sizes.{Who, is_size, is_hub, text_room}
+use Rattle.kinds.specs.Event.{event_with}
+use Rattle.kinds.specs.Refusal.{number_of}
+use Rattle.kinds.specs.declared.Event.{Event as Named}
+use Rattle.kinds.specs.declared.Event.TheVariants.{Start, Propose, Send, Restart, Receive}
+use Rattle.kinds.specs.declared.Refusal.{Refusal}
+use Rattle.kinds.specs.declared.Refusal.TheVariants.{NotKnown, BadState, ShortOutput}
+use Rattle.kinds.proofs.BoolLaws.{and_first, and_second}
 use Rattle.state.specs.State.{Kept, State}
-use Rattle.state.specs.Image.{image, kept_in, state_in, read_kept}
+use Rattle.state.specs.Image.{kept_in, read_state, read_kept}
 use Rattle.state.specs.Check.{is_some}
-use Rattle.kinds.proofs.BoolLaws.{and_first, and_second, cond_either}
-use Rattle.message.proofs.PlaceLaws.{no_place}
-use Rattle.rules.proofs.OutcomeLaws.{start_told, propose_told, send_told, restart_told}
-use Rattle.rules.specs.Outcome.{done, not_known, bad_state, short_output, bad_message}
-use Rattle.rules.specs.Events.{start, propose, send, restart}
-use Rattle.rules.specs.Step.{Call, Event, start_event, propose_event, send_event, restart_event, receive_event, event_of, refusal, receiving, acting, kept_alone, seen_by, at_state, at_event, step_of, written, over}
-use Rattle.promise.specs.Promise.{Answers, Ready, Gives, Hears, Quiet, left_by}
-use Rattle.promise.specs.Gate.{is_known, is_fit, gate}
-use Rattle.promise.proofs.GateLaws.{none_when, read_state_some, read_kept_some, fit_restart, fit_other}
-use Rattle.promise.proofs.PromiseLaws.{done_quiet, hears_answers, gives_answers, quiet_answers}
-use Rattle.receive.specs.Heard.{heard}
-use Rattle.kinds.specs.Event.{receive_number}
-use Rattle.rules.specs.Receive.{receive}
-use Rattle.message.specs.Message.{Message}
+use Rattle.rules.specs.Outcome.{bad_message}
+use Rattle.rules.specs.Events.{restart}
+use Rattle.rules.specs.Step.{Call, Event, start_event, propose_event, send_event, restart_event, receive_event, event_of, refusal, acting, kept_alone, seen_by, at_state, at_event, step_of}
+use Rattle.promise.specs.Promise.{Ready}
+use Rattle.promise.specs.Gate.{is_in, is_fit, let_in, gate}
+use Rattle.promise.proofs.GateLaws.{none_when, read_state_some, read_kept_some}
 
--- ---- the events' numbers
+-- ---- events
 
--- The event of a number, and that the gate checks what it needs to see.
-record Listed (w : Who) (l : List ℕ) (n : ℕ) : Type 0 where
-  event : Event
-  is : event_of n ≡ some event
-  fit : is_fit w n l ≡ is_some (seen_by w event l)
+-- The event, as the rules have it.
+abbrev pub ruled : Named → Event
+ruled Start = start_event
+ruled Propose = propose_event
+ruled Send = send_event
+ruled Restart = restart_event
+ruled Receive = receive_event
 
+-- A number's event, and none.
+named_is :
+    (a b c d f : Bool) (e : Named)
+    → ◌≡◌ {A = Result Named Refusal} (cond a (Ok Start) (cond b (Ok Propose) (cond c (Ok Send) (cond d (Ok Restart) (cond f (Ok Receive) (Err NotKnown))))))
+    (Ok e)
+    → cond a (some start_event) (cond b (some propose_event) (cond c (some send_event) (cond d (some restart_event) (cond f (some receive_event) none))))
+    ≡ some (ruled e)
+named_is true b c d f e h = let same : Start ≡ e = cc in ap (λ (x : Named). some (ruled x)) same
+named_is false true c d f e h = let same : Propose ≡ e = cc in ap (λ (x : Named). some (ruled x)) same
+named_is false false true d f e h = let same : Send ≡ e = cc in ap (λ (x : Named). some (ruled x)) same
+named_is false false false true f e h = let same : Restart ≡ e = cc in ap (λ (x : Named). some (ruled x)) same
+named_is false false false false true e h = let same : Receive ≡ e = cc in ap (λ (x : Named). some (ruled x)) same
+named_is false false false false false e h = absurd cc
+
+nameless_is :
+    (a b c d f : Bool) (r : Refusal)
+    → ◌≡◌ {A = Result Named Refusal} (cond a (Ok Start) (cond b (Ok Propose) (cond c (Ok Send) (cond d (Ok Restart) (cond f (Ok Receive) (Err NotKnown))))))
+    (Err r)
+    → (r ≡ NotKnown)
+    × (◌≡◌ {A = Option Event}
+    (cond a (some start_event) (cond b (some propose_event) (cond c (some send_event) (cond d (some restart_event) (cond f (some receive_event) none))))) none)
+nameless_is true b c d f r h = absurd cc
+nameless_is false true c d f r h = absurd cc
+nameless_is false false true d f r h = absurd cc
+nameless_is false false false true f r h = absurd cc
+nameless_is false false false false true r h = absurd cc
+nameless_is false false false false false r h = (cc, refl)
+
+event_named : (n : ℕ) (e : Named) → event_with n ≡ Ok e → event_of n ≡ some (ruled e)
+unfolding event_with event_of
+event_named n e h = named_is _ _ _ _ _ e h
+
+event_nameless : (n : ℕ) (r : Refusal) → event_with n ≡ Err r → (r ≡ NotKnown) × (event_of n ≡ none)
+unfolding event_with event_of
+event_nameless n r h = nameless_is _ _ _ _ _ r h
+
+-- The gate checks what the event needs to see.
 alone : (o : Option Kept) → is_some o ≡ is_some (kept_alone o)
 unfolding is_some kept_alone
 alone none = refl
 alone (some k) = refl
 
-out_of : {A : Type 0} (n : ℕ) → 5 < n → between 1 5 n ≡ true → A
-unfolding between
-out_of n h e = absurd (omega (arith, leb-true n 5 (and_second (leb 1 n) (leb n 5) e)))
+fit_seen : (w : Who) (e : Named) (l : List ℕ) → is_fit w e l ≡ is_some (seen_by w (ruled e) l)
+unfolding is_fit seen_by
+fit_seen w Start l = refl
+fit_seen w Propose l = refl
+fit_seen w Send l = refl
+fit_seen w Restart l = alone (read_kept l)
+fit_seen w Receive l = refl
 
-listed : (w : Who) (l : List ℕ) (n : ℕ) → between 1 5 n ≡ true → Listed w l n
-unfolding event_of is_fit seen_by between
-listed w l zero h = absurd (let z : ◌≡◌ {A = ℕ} 0 1 = cc in omega arith)
-listed w l (suc zero) h = record { event = start_event; is = refl; fit = refl }
-listed w l (suc (suc zero)) h = record { event = propose_event; is = refl; fit = refl }
-listed w l (suc (suc (suc zero))) h = record { event = send_event; is = refl; fit = refl }
-listed w l (suc (suc (suc (suc zero)))) h = record { event = restart_event; is = refl; fit = alone (read_kept l) }
-listed w l (suc (suc (suc (suc (suc zero))))) h = record { event = receive_event; is = refl; fit = refl }
-listed w l (suc (suc (suc (suc (suc (suc n)))))) h = out_of (suc (suc (suc (suc (suc (suc n)))))) (omega arith) h
+-- ---- the gate
 
--- No other number is an event's.
-unlisted : (n : ℕ) → between 1 5 n ≡ false → event_of n ≡ none
-unfolding event_of between
-unlisted zero h = refl
-unlisted (suc zero) h = absurd (let z : ◌≡◌ {A = ℕ} 0 1 = cc in omega arith)
-unlisted (suc (suc zero)) h = absurd (let z : ◌≡◌ {A = ℕ} 0 1 = cc in omega arith)
-unlisted (suc (suc (suc zero))) h = absurd (let z : ◌≡◌ {A = ℕ} 0 1 = cc in omega arith)
-unlisted (suc (suc (suc (suc zero)))) h = absurd (let z : ◌≡◌ {A = ℕ} 0 1 = cc in omega arith)
-unlisted (suc (suc (suc (suc (suc zero))))) h = absurd (let z : ◌≡◌ {A = ℕ} 0 1 = cc in omega arith)
-unlisted (suc (suc (suc (suc (suc (suc n)))))) h =
-    let m = suc (suc (suc (suc (suc (suc n))))) in
-    rw (
-      ne_eqb m 1 (λ e. omega arith),
-      ne_eqb m 2 (λ e. omega arith),
-      ne_eqb m 3 (λ e. omega arith),
-      ne_eqb m 4 (λ e. omega arith),
-      ne_eqb m 5 (λ e. omega arith),
-    )
+-- What is refused with this.
+pub record Refuses (c : Call) (r : Refusal) : Type 0 where
+  pub other : number_of r ≡ bad_message → ⊥
+  pub step : step_of c ≡ refusal c (number_of r)
 
-above : (k n : ℕ) → k ≤ n → (n ≡ k → ⊥) → k < n
-above k n h other = omega (arith, other)
-
-last : (n : ℕ) → (1 ≤ n) × (n ≤ 5) → (n ≡ 1 → ⊥) → (n ≡ 2 → ⊥) → (n ≡ 3 → ⊥) → (n ≡ 4 → ⊥) → n ≡ 5
-last n (from, to) first second third fourth =
-    let p = above 4 n (above 3 n (above 2 n (above 1 n from first) second) third) fourth in
-    omega (arith, p)
-
--- ---- the whole call
+-- What holds where an event passes.
+pub record Passes (c : Call) (e : Named) : Type 0 where
+  pub size : is_size c.who.size ≡ true
+  pub own : is_hub c.who.size c.who.own ≡ true
+  pub event : event_of c.event ≡ some (ruled e)
+  pub fit : is_fit c.who e c.state ≡ true
+  pub room : ltb (length c.output) text_room ≡ false
 
 module _ (c : Call) where
-  abbrev gate_of : ℕ
-  gate_of = gate c.who c.event c.state c.output
+  abbrev here : Bool
+  here = is_size c.who.size && is_hub c.who.size c.who.own
 
-  -- A call that is refused leaves every byte.
-  refusal_answers : (k : ℕ) → (k ≡ bad_message → ⊥) → step_of c ≡ refusal c k → Answers (step_of c) c.input k c.state c.output
-  unfolding refusal
-  refusal_answers k other e =
-      rw e (record { place = 0; place_is = no_place other; returned = omega arith; state_left = refl; output_left = refl })
+  -- Who is not in a group is refused whatever the event.
+  outside : here ≡ false → (o : Option Event) → at_event c o ≡ refusal c (number_of NotKnown)
+  unfolding at_event
+  outside h none = refl
+  outside h (some e) = rw h
 
-  -- The gate has no outcome 4.
-  gate_other : gate_of ≡ bad_message → ⊥
-  unfolding gate
-  gate_other =
-      let other : ℕ → Type 0 = λ k. k ≡ bad_message → ⊥ in
-      cond_either other (is_known c.who c.event)
-      (λ a. cond_either other (is_fit c.who c.event c.state)
-      (λ b. cond_either other (ltb (length c.output) text_room) (λ d e. omega (arith, e)) (λ d e. omega (arith, e)))
-      (λ b e. omega (arith, e)))
-      (λ a e. omega (arith, e))
+  -- One that is, by what is read of the state.
+  unfit : here ≡ true → (e : Event) → seen_by c.who e c.state ≡ none → at_event c (some e) ≡ refusal c (number_of BadState)
+  unfolding at_event at_state
+  unfit h e sees = rw (h, sees)
 
-  known_parts : is_known c.who c.event ≡ true → (is_size c.who.size ≡ true) × (is_hub c.who.size c.who.own ≡ true) × (between 1 5 c.event ≡ true)
-  unfolding is_known
-  known_parts h =
-      let size = is_size c.who.size in
-      let hub = is_hub c.who.size c.who.own in
-      let event = between 1 5 c.event in
-      let rest = and_second size (hub && event) h in
-      (and_first size (hub && event) h, and_first hub event rest, and_second hub event rest)
+  short : here ≡ true → (e : Event) (o : Option State) → is_some o ≡ true → seen_by c.who e c.state ≡ o → ltb (length c.output) text_room ≡ true
+      → at_event c (some e) ≡ refusal c (number_of ShortOutput)
+  unfolding at_event at_state is_some
+  short h e none some-is sees b = absurd cc
+  short h e (some s) some-is sees b = rw (h, sees, b)
 
-  -- Behind the first test: what the event needs to see.
-  stepped : (h : is_known c.who c.event ≡ true)
-      → (let e = listed c.who c.state c.event (known_parts h).2 in step_of c ≡ at_state c e.event (seen_by c.who e.event c.state))
-  unfolding step_of at_event
-  stepped h =
-      let p = known_parts h in
-      rw ((listed c.who c.state c.event p.2).is, p.0, p.1)
+  fit_refused :
+      here ≡ true → (e : Named) → event_of c.event ≡ some (ruled e) → (f s : Bool) → is_fit c.who e c.state ≡ f → ltb (length c.output) text_room ≡ s
+      → (r : Refusal) → ◌≡◌ {A = Result Named Refusal} (cond f (cond s (Err ShortOutput) (Ok e)) (Err BadState)) (Err r) → Refuses c r
+  unfolding step_of
+  fit_refused h e is false s a b r g =
+      let same : BadState ≡ r = cc in
+      subst (Refuses c) same
+      (record { other = λ z. omega arith; step = rw is (unfit h (ruled e) (none_when (seen_by c.who (ruled e) c.state) (sym (fit_seen c.who e c.state) ∙ a))) })
+  fit_refused h e is true true a b r g =
+      let same : ShortOutput ≡ r = cc in
+      subst (Refuses c) same
+      (record { other = λ z. omega arith; step = rw is (short h (ruled e) (seen_by c.who (ruled e) c.state) (sym (fit_seen c.who e c.state) ∙ a) refl b) })
+  fit_refused h e is true false a b r g = absurd cc
 
-  unknown_step : is_known c.who c.event ≡ false → step_of c ≡ refusal c not_known
-  unfolding is_known step_of at_event
-  unknown_step h = go (between 1 5 c.event) refl
-    where
-      tests : (a b : Bool) → (a && (b && true)) ≡ false → (a && b) ≡ false
-      tests true true h = h
-      tests true false h = refl
-      tests false b h = refl
+  not_known_refused : (r : Refusal) → NotKnown ≡ r → at_event c (event_of c.event) ≡ refusal c (number_of NotKnown) → Refuses c r
+  unfolding step_of
+  not_known_refused r same is = subst (Refuses c) same (record { other = λ z. omega arith; step = is })
 
-      go : (b : Bool) → between 1 5 c.event ≡ b → at_event c (event_of c.event) ≡ refusal c not_known
-      go false e = rw (unlisted c.event e)
-      go true e =
-          let l = listed c.who c.state c.event e in
-          let no = tests (is_size c.who.size) (is_hub c.who.size c.who.own) (rw e at h) in
-          rw (l.is, no)
+  let_in_refused :
+      here ≡ true → (n : Result Named Refusal) → event_with c.event ≡ n → (r : Refusal) → let_in c.who c.state c.output n ≡ Err r → Refuses c r
+  unfolding let_in at_event
+  let_in_refused h (Ok e) is r g = fit_refused h e (event_named c.event e is) (is_fit c.who e c.state) (ltb (length c.output) text_room) refl refl r g
+  let_in_refused h (Err k) is r g =
+      let nameless = event_nameless c.event k is in
+      let same : NotKnown ≡ r = sym nameless.0 ∙ cc in
+      not_known_refused r same (rw nameless.1)
 
-  passed : (a b d : Bool) → ◌≡◌ {A = ℕ} (cond a (cond b (cond d short_output done) bad_state) not_known) done → (a ≡ true) × (b ≡ true) × (d ≡ false)
-  passed true true true h = (refl, refl, cc)
-  passed true true false h = (refl, refl, refl)
-  passed true false d h = (refl, cc, cc)
-  passed false b d h = (cc, cc, cc)
+  gate_refused : (b : Bool) → here ≡ b → (r : Refusal)
+      → ◌≡◌ {A = Result Named Refusal} (cond b (let_in c.who c.state c.output (event_with c.event)) (Err NotKnown)) (Err r) → Refuses c r
+  gate_refused true h r g = let_in_refused h (event_with c.event) refl r g
+  gate_refused false h r g = not_known_refused r (cc) (outside h (event_of c.event))
 
-  gate_passed : gate_of ≡ done → (is_known c.who c.event ≡ true) × (is_fit c.who c.event c.state ≡ true) × (ltb (length c.output) text_room ≡ false)
-  unfolding gate
-  gate_passed h = passed (is_known c.who c.event) (is_fit c.who c.event c.state) (ltb (length c.output) text_room) h
+  -- The gate refuses.
+  pub step_refuses : (r : Refusal) → gate c.who c.event c.state c.output ≡ Err r → Refuses c r
+  unfolding gate is_in
+  step_refuses r g = gate_refused here refl r g
 
-  -- The gate refuses: every byte stays.
-  pub step_refused : (k : ℕ) → k ≡ gate_of → (k ≡ done → ⊥) → Answers (step_of c) c.input k c.state c.output
-  unfolding gate at_state is_some
-  step_refused k e h = known (is_known c.who c.event) refl
-    where
-      room : (b : Bool) (o : Option State) → is_some o ≡ true → ltb (length c.output) text_room ≡ b → (a : is_known c.who c.event ≡ true)
-          → is_fit c.who c.event c.state ≡ true
-          → (let e = listed c.who c.state c.event (known_parts a).2 in seen_by c.who e.event c.state ≡ o) → Answers (step_of c) c.input k c.state c.output
-      room b none f d a fit is = absurd (let z : ◌≡◌ {A = ℕ} 0 1 = cc in omega arith)
-      room true (some s) f d a fit is = refusal_answers k (λ four. gate_other (sym e ∙ four)) (stepped a ∙ rw (is, d, e, a, fit, d))
-      room false (some s) f d a fit is = absurd (h (e ∙ rw (a, fit, d)))
+  fit_passes :
+      here ≡ true → (x : Named) → event_of c.event ≡ some (ruled x) → (f s : Bool) → is_fit c.who x c.state ≡ f → ltb (length c.output) text_room ≡ s
+      → (e : Named) → ◌≡◌ {A = Result Named Refusal} (cond f (cond s (Err ShortOutput) (Ok x)) (Err BadState)) (Ok e) → Passes c e
+  fit_passes h x is false s a b e g = absurd cc
+  fit_passes h x is true true a b e g = absurd cc
+  fit_passes h x is true false a b e g =
+      let same : x ≡ e = cc in
+      subst (Passes c) same
+      (record {
+        size = and_first (is_size c.who.size) (is_hub c.who.size c.who.own) h;
+        own = and_second (is_size c.who.size) (is_hub c.who.size c.who.own) h;
+        event = is;
+        fit = a;
+        room = b;
+      })
 
-      fit : (b : Bool) → is_fit c.who c.event c.state ≡ b → is_known c.who c.event ≡ true → Answers (step_of c) c.input k c.state c.output
-      fit false b a =
-          let l = listed c.who c.state c.event (known_parts a).2 in
-          refusal_answers k (λ four. gate_other (sym e ∙ four)) (stepped a ∙ rw (none_when (seen_by c.who l.event c.state) (sym l.fit ∙ b), e, a, b))
-      fit true b a =
-          let l = listed c.who c.state c.event (known_parts a).2 in
-          room (ltb (length c.output) text_room) (seen_by c.who l.event c.state) (sym l.fit ∙ b) refl a b refl
+  let_in_passes : here ≡ true → (n : Result Named Refusal) → event_with c.event ≡ n → (e : Named) → let_in c.who c.state c.output n ≡ Ok e → Passes c e
+  unfolding let_in
+  let_in_passes h (Ok x) is e g = fit_passes h x (event_named c.event x is) (is_fit c.who x c.state) (ltb (length c.output) text_room) refl refl e g
+  let_in_passes h (Err k) is e g = absurd cc
 
-      known : (b : Bool) → is_known c.who c.event ≡ b → Answers (step_of c) c.input k c.state c.output
-      known false a = refusal_answers k (λ four. gate_other (sym e ∙ four)) (unknown_step a ∙ rw (e, a))
-      known true a = fit (is_fit c.who c.event c.state) refl a
+  gate_passes : (b : Bool) → here ≡ b → (e : Named)
+      → ◌≡◌ {A = Result Named Refusal} (cond b (let_in c.who c.state c.output (event_with c.event)) (Err NotKnown)) (Ok e) → Passes c e
+  gate_passes true h e g = let_in_passes h (event_with c.event) refl e g
+  gate_passes false h e g = absurd cc
 
-  -- The gate is open.
-  module _ (h : gate_of ≡ done) where
-    open_parts : (is_size c.who.size ≡ true) × (is_hub c.who.size c.who.own ≡ true) × (between 1 5 c.event ≡ true)
-    open_parts = known_parts (gate_passed h).0
+  -- The gate lets the event in.
+  pub step_passes : (e : Named) → gate c.who c.event c.state c.output ≡ Ok e → Passes c e
+  unfolding gate is_in
+  step_passes e g = gate_passes here refl e g
 
-    -- The state is ready for any event but a restart.
-    pub step_ready : (c.event ≡ 4 → ⊥) → Ready c.who c.state
-    step_ready other =
-        record {
-          size = open_parts.0;
-          own = open_parts.1;
-          held = read_state_some c.who c.state (sym (fit_other c.who c.event c.state other) ∙ (gate_passed h).1);
-        }
+-- ---- behind the gate
 
-    -- The kept parts are legal for a restart.
-    pub step_kept : c.event ≡ 4 → is_some (read_kept c.state) ≡ true
-    step_kept e = sym (fit_restart c.who c.event c.state e) ∙ (gate_passed h).1
+module _ (c : Call) (e : Named) (p : Passes c e) where
+  -- The output has its room.
+  pub step_room : text_room ≤ length c.output
+  step_room = ltb-false (length c.output) text_room p.room
 
-    -- The output has its room.
-    pub step_room : text_room ≤ length c.output
-    step_room = ltb-false (length c.output) text_room (gate_passed h).2
+  -- The step is the event's, at what it sees.
+  pub step_acts : (s : State) → seen_by c.who (ruled e) c.state ≡ some s → step_of c ≡ acting c (ruled e) s
+  unfolding step_of at_event at_state
+  step_acts s sees = rw (p.event, p.size, p.own, sees, p.room)
 
-    -- An event that is none of the first four is the fifth.
-    pub step_fifth : (c.event ≡ 1 → ⊥) → (c.event ≡ 2 → ⊥) → (c.event ≡ 3 → ⊥) → (c.event ≡ 4 → ⊥) → c.event ≡ 5
-    step_fifth first second third fourth =
-        last c.event (between_true 1 5 c.event open_parts.2) first second third fourth
+-- The state is ready for any event but a restart.
+pub step_ready : (c : Call) (e : Named) → is_fit c.who e c.state ≡ is_some (read_state c.who c.state) → Passes c e → Ready c.who c.state
+step_ready c e whole p = record { size = p.size; own = p.own; held = read_state_some c.who c.state (sym whole ∙ p.fit) }
 
-    -- The event that has this number, at the state that it sees.
-    acts : (e : Event) (s : State) → event_of c.event ≡ some e → seen_by c.who e c.state ≡ some s → step_of c ≡ acting c e s
-    unfolding step_of at_event at_state
-    acts e s event sees = rw (event, open_parts.0, open_parts.1, sees, (gate_passed h).2)
+-- The kept parts are legal for a restart.
+pub step_kept : (c : Call) → Passes c Restart → is_some (read_kept c.state) ≡ true
+unfolding is_fit
+step_kept c p = p.fit
 
-    -- Start.
-    pub step_start : c.event ≡ 1 → {r : ℕ} {l out : List ℕ} → Gives (start c.who (state_in c.state)) c.state c.output r l out
-        → Answers (step_of c) c.input r l out
-    unfolding event_of seen_by acting
-    step_start e g =
-        let ready = step_ready (λ f. omega arith) in
-        rw (acts start_event (state_in c.state) (rw e) ready.held)
-        (gives_answers c (start c.who (state_in c.state)) (start_told c.who (state_in c.state)).other g)
-
-    -- Propose.
-    pub step_propose : c.event ≡ 2 → {r : ℕ} {l : List ℕ} → Quiet (propose c.who (state_in c.state) (read_proposal c.input)) c.state r l
-        → Answers (step_of c) c.input r l c.output
-    unfolding event_of seen_by acting
-    step_propose e q =
-        let ready = step_ready (λ f. omega arith) in
-        rw (acts propose_event (state_in c.state) (rw e) ready.held) (quiet_answers c (propose c.who (state_in c.state) (read_proposal c.input))
-        (propose_told c.who (state_in c.state).kept (state_in c.state).lost (read_proposal c.input)).other q)
-
-    -- Send.
-    pub step_send : c.event ≡ 3 → {r : ℕ} {l out : List ℕ} → Gives (send c.who (state_in c.state) c.a c.b) c.state c.output r l out
-        → Answers (step_of c) c.input r l out
-    unfolding event_of seen_by acting
-    step_send e g =
-        let ready = step_ready (λ f. omega arith) in
-        rw (acts send_event (state_in c.state) (rw e) ready.held)
-        (gives_answers c (send c.who (state_in c.state) c.a c.b) (send_told c.who (state_in c.state) c.a c.b).other g)
-
-    -- Restart.
-    pub step_restart : c.event ≡ 4 → {l : List ℕ} → l ≡ image (restart (kept_in c.state)).state → Answers (step_of c) c.input done l c.output
-    unfolding event_of seen_by kept_alone acting restart
-    step_restart e left =
-        let k = kept_in c.state in
-        let s = (restart k).state in
-        let sees : seen_by c.who restart_event c.state ≡ some s = rw (read_kept_some c.state (step_kept e)) in
-        rw (acts restart_event s (rw e) sees) (quiet_answers c (restart k) (restart_told k).other (done_quiet s c.state _ refl left))
-
-    -- Receive.
-    pub step_receive : c.event ≡ 5 → step_of c ≡ receiving c (state_in c.state) (read c.input)
-    unfolding event_of seen_by acting
-    step_receive e =
-        let ready = step_ready (λ f. omega arith) in
-        acts receive_event (state_in c.state) (rw e) ready.held
-
--- ---- a received text
-
--- The same, over the call.
-heard_answers :
-    (c : Call) (s : State) (m : Option Message) {r : ℕ} {l out : List ℕ} → Hears (heard c.who s m) c.input c.state c.output r l out
-    → Answers (receiving c s m) c.input r l out
-unfolding heard receiving refusal left_by written over
-heard_answers c s none g =
-    record { place = g.place; place_is = g.place_is; returned = omega (arith, g.returned); state_left = g.state_left; output_left = g.output_left }
-heard_answers c s (some m) g = hears_answers c (receive c.who s m) g
-
--- What a received text gives is the step's answer to the call, where the gate is open.
-pub step_heard :
-    (c : Call) → gate c.who c.event c.state c.output ≡ done → c.event ≡ receive_number → {r : ℕ} {l out : List ℕ}
-    → Hears (heard c.who (state_in c.state) (read c.input)) c.input c.state c.output r l out → Answers (step_of c) c.input r l out
-step_heard c h e g = rw (step_receive c h e) (heard_answers c (state_in c.state) (read c.input) g)
+-- Restart sees the kept parts alone.
+pub restart_sees : (c : Call) → Passes c Restart → seen_by c.who restart_event c.state ≡ some (restart (kept_in c.state)).state
+unfolding seen_by kept_alone
+restart_sees c p = rw (read_kept_some c.state (step_kept c p))

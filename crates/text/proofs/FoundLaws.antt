@@ -1,27 +1,26 @@
 -- What is found at a place of a text, from the bytes that stand there: one law for each answer of the code, whose premises are what the
 -- code's tests tell. And that a find has one answer. Assumes nothing.
+use Rattle.std.specs.Prelude.{Option, Some, None}
+use Rattle.std.specs.Char.{is_ascii_digit}
 use Prim.Native.Nat.{ℕ, zero, suc, ◌+◌, ◌-◌, ◌*◌, ◌≤◌, ◌<◌}
 use mathlib.Core.List.{List, [], ◌∷◌}
 use mathlib.Core.Path.{◌≡◌, refl, ap, sym, ◌∙◌}
 use native.Mathlib.Omega.{arith}
 use native.Mathlib.Numerals.{add-one}
 use native.Mathlib.Nat.{add-zero}
-use mathlib.Core.Bool.{Bool, true, false, ◌||◌}
-use lib.Dec.{eqb, ltb}
-use borrow.Author.Tests.{eqb-true, eqb-false, ltb-true, ltb-false}
+use borrow.Author.Tests.{eqb-true, eqb-false}
+use mathlib.Core.Bool.{Bool, true, false}
+use lib.Dec.{eqb}
 use lib.ListN.{length, get_or, drop, length-drop, drop_of_length-le}
 use lib.Seq.{drop-cons}
+use Rattle.kinds.specs.Sizes.{between}
 use Rattle.text.specs.Decimal.{is_digit, more_digits, number}
 use Rattle.text.specs.Found.{Found, FoundNext, FoundNumber, IsFour}
 use Rattle.text.specs.Range.{within, number_in, line_in}
 use Rattle.text.specs.Reader.{Got, got, lost, onward, literal}
-use Rattle.text.specs.declared.Next.{Next}
 use Rattle.text.specs.declared.Number.{Number}
-use Rattle.text.specs.declared.Number.TheVariants.{Is, Bad as Number-as-Bad}
-use Rattle.kinds.proofs.BetweenLaws.{between_below, between_above}
-use Rattle.kinds.proofs.BoolLaws.{or_either, or_first, or_second}
 use Rattle.text.proofs.CaseLaws.{number_is, number_bad}
-use Rattle.text.proofs.DecimalLaws.{digit_is, more_end, more_digit, more_other, number_end, number_zero, number_first, number_other}
+use Rattle.text.proofs.DecimalLaws.{more_digit, more_end, more_other, number_end, number_zero, number_first, number_other}
 use Rattle.text.proofs.RangeLaws.{within_in, within_sound, more_above, number_in_lost, number_in_below, number_in_other, number_in_ended}
 use Rattle.text.proofs.ReaderLaws.{got_value, got_rest, onward_got, onward_lost, onward_sound, literal_same, literal_other}
 
@@ -134,21 +133,15 @@ module _ (key s : List ℕ) (g : Got (Unit {0})) (i j : ℕ) (so_far : g ≡ lit
           look (suc left) n e same = one_other n (omega arith) same (λ f. look left (n + 1) (omega arith) (one_more n same f))
 
 -- What is found of the rest is what is found of all.
-pub literal_rest : (s : List ℕ) (g h : Got (Unit {0})) (r : Next) → g ≡ h → FoundNext s h r → FoundNext s g r
+pub literal_rest : (s : List ℕ) (g h : Got (Unit {0})) (r : Option ℕ) → g ≡ h → FoundNext s h r → FoundNext s g r
 literal_rest s g h r e f = rw e f
 
 -- ---- digits
 
--- Whether a byte is a digit, as the code asks it.
-outside : (b : ℕ) → ltb b 48 || ltb 57 b ≡ true → is_digit b ≡ false
-outside b t = or_either _ _ t (λ l. between_below 48 57 b (ltb-true b 48 l)) (λ l. between_above 48 57 b (ltb-true 57 b l))
-
--- The code takes 48 from a digit.
-pub digit_least : (b : ℕ) → ltb b 48 || ltb 57 b ≡ false → 48 ≤ b
-digit_least b t = ltb-false b 48 (or_first _ _ t)
-
-inside : (b : ℕ) → ltb b 48 || ltb 57 b ≡ false → is_digit b ≡ true
-inside b t = digit_is b (digit_least b t) (ltb-false 57 b (or_second (ltb b 48) _ t))
+-- A byte is a digit, as the code asks it.
+pub digit_asked : (b : ℕ) (t : Bool) → t ≡ is_ascii_digit b → is_digit b ≡ t
+unfolding between
+digit_asked b t e = sym e
 
 module _ (s : List ℕ) (at u hi v i : ℕ) (so_far : more_digits u (drop at s) ≡ more_digits v (drop i s)) where
   ends : v ≤ hi → i ≤ length s → more_digits v (drop i s) ≡ got v (drop i s) → Found s (onward (more_digits u (drop at s)) (within 0 hi)) v i
@@ -164,17 +157,27 @@ module _ (s : List ℕ) (at u hi v i : ℕ) (so_far : more_digits u (drop at s) 
     stops e = ends h (omega arith) (rw (drop_next s i p) (more_other _ _ v e))
 
     -- A byte that is no digit.
-    pub digits_stop : ltb (get_or s i 0) 48 || ltb 57 (get_or s i 0) ≡ true → Found s (onward (more_digits u (drop at s)) (within 0 hi)) v i
-    digits_stop t = stops (outside (get_or s i 0) t)
+    pub digits_stop : (t : Bool) → t ≡ is_ascii_digit (get_or s i 0) → t ≡ false → Found s (onward (more_digits u (drop at s)) (within 0 hi)) v i
+    digits_stop t a n = stops (digit_asked (get_or s i 0) t a ∙ n)
 
-  module _ (p : i < length s) (t : ltb (get_or s i 0) 48 || ltb 57 (get_or s i 0) ≡ false) (w : ℕ) (e : w ≡ get_or s i 0 - 48) where
+  module _ (p : i < length s) (t : Bool) (a : t ≡ is_ascii_digit (get_or s i 0)) (n : t ≡ true) (w : ℕ) (e : w ≡ get_or s i 0 - 48) where
     -- One more digit.
     pub digits_again : more_digits u (drop at s) ≡ more_digits (v * 10 + w) (drop (i + 1) s)
-    digits_again = so_far ∙ rw (e, drop_next s i p) (more_digit _ _ v (inside (get_or s i 0) t))
+    digits_again = so_far ∙ rw (e, drop_next s i p) (more_digit _ _ v (digit_asked (get_or s i 0) t a ∙ n))
 
     -- With it the number is too large.
     pub digits_over : hi < v * 10 + w → onward (more_digits u (drop at s)) (within 0 hi) ≡ lost
     digits_over o = rw digits_again (more_above hi (v * 10 + w) (drop (i + 1) s) o)
+
+  -- With any digit more it is.
+  pub digits_far
+      : i < length s
+      → (t : Bool)
+      → t ≡ is_ascii_digit (get_or s i 0)
+      → t ≡ true
+      → hi < v * 10
+      → onward (more_digits u (drop at s)) (within 0 hi) ≡ lost
+  digits_far p t a n o = digits_over p t a n (get_or s i 0 - 48) refl (omega arith)
 
 -- ---- a number
 
@@ -193,64 +196,70 @@ module _ (s : List ℕ) (at hi : ℕ) where
         }
 
     -- A byte that is no digit.
-    pub number_stop : ltb (get_or s at 0) 48 || ltb 57 (get_or s at 0) ≡ true → onward (number (drop at s)) (within 0 hi) ≡ lost
-    number_stop t = onward_lost (within 0 hi) (rw (drop_next s at p) (number_other _ _ (outside (get_or s at 0) t)))
+    pub number_stop : (t : Bool) → t ≡ is_ascii_digit (get_or s at 0) → t ≡ false → onward (number (drop at s)) (within 0 hi) ≡ lost
+    number_stop t a n = onward_lost (within 0 hi) (rw (drop_next s at p) (number_other _ _ (digit_asked (get_or s at 0) t a ∙ n)))
 
-    module _ (t : ltb (get_or s at 0) 48 || ltb 57 (get_or s at 0) ≡ false) (n : get_or s at 0 ≡ 48 → ⊥) (u : ℕ) (e : u ≡ get_or s at 0 - 48) where
-      first : number (drop at s) ≡ more_digits u (drop (at + 1) s)
-      first = rw (e, drop_next s at p) (number_first _ _ (inside (get_or s at 0) t) n)
+    module _
+        (t : Bool) (a : t ≡ is_ascii_digit (get_or s at 0)) (m : t ≡ true)
+        (n : get_or s at 0 ≡ 48 → ⊥) (u : ℕ) (e : u ≡ get_or s at 0 - 48)
+      where
+        first : number (drop at s) ≡ more_digits u (drop (at + 1) s)
+        first = rw (e, drop_next s at p) (number_first _ _ (digit_asked (get_or s at 0) t a ∙ m) n)
 
-      -- Another digit, too large by itself.
-      pub number_over : hi < u → onward (number (drop at s)) (within 0 hi) ≡ lost
-      number_over o = rw first (more_above hi u (drop (at + 1) s) o)
+        -- Another digit, too large by itself.
+        pub number_over : hi < u → onward (number (drop at s)) (within 0 hi) ≡ lost
+        number_over o = rw first (more_above hi u (drop (at + 1) s) o)
 
-      -- Another digit: the number is made by those behind it.
-      pub number_digits
-          : (r : Number)
-          → FoundNumber s (onward (more_digits u (drop (at + 1) s)) (within 0 hi)) r
-          → FoundNumber s (onward (number (drop at s)) (within 0 hi)) r
-      number_digits r f = rw first f
+        -- Another digit: the number is made by those behind it.
+        pub number_digits
+            : (r : Option Number)
+            → FoundNumber s (onward (more_digits u (drop (at + 1) s)) (within 0 hi)) r
+            → FoundNumber s (onward (number (drop at s)) (within 0 hi)) r
+        number_digits r f = rw first f
 
 -- ---- a number and the byte that ends it
 
-module _ (s : List ℕ) (at lo hi end : ℕ) (r : Number) (found : FoundNumber s (onward (number (drop at s)) (within 0 hi)) r) where
+module _ (s : List ℕ) (at lo hi end : ℕ) (r : Option Number) (found : FoundNumber s (onward (number (drop at s)) (within 0 hi)) r) where
   -- There was no number.
-  pub in_none : r ≡ Number-as-Bad → number_in lo hi end (drop at s) ≡ lost
+  pub in_none : r ≡ None → number_in lo hi end (drop at s) ≡ lost
   in_none e = number_in_lost lo hi end (drop at s) (number_bad s _ r found e)
 
-  module _ (x n : ℕ) (e : r ≡ Is x n) where
-    was : Found s (onward (number (drop at s)) (within 0 hi)) x n
-    was = number_is s _ r found x n e
+  module _ (x : Number) (e : r ≡ Some x) where
+    was : Found s (onward (number (drop at s)) (within 0 hi)) x.value x.next
+    was = number_is s _ r found x e
 
-    it : (number (drop at s) ≡ got x (drop n s)) × (x ≤ hi)
+    it : (number (drop at s) ≡ got x.value (drop x.next s)) × (x.value ≤ hi)
     it =
         let f = onward_sound was.read in
         let w = within_sound 0 hi f.value f.left f.next in
         (f.first ∙ w.0, omega (arith, got_value w.0))
 
     -- The number is below the range.
-    pub in_below : x < lo → number_in lo hi end (drop at s) ≡ lost
-    in_below l = number_in_below lo hi end (drop at s) x (drop n s) it.0 l
+    pub in_below : x.value < lo → number_in lo hi end (drop at s) ≡ lost
+    in_below l = number_in_below lo hi end (drop at s) x.value (drop x.next s) it.0 l
 
     -- The text ends behind the number.
-    pub in_end : length s ≤ n → number_in lo hi end (drop at s) ≡ lost
+    pub in_end : length s ≤ x.next → number_in lo hi end (drop at s) ≡ lost
     unfolding literal
-    in_end h = number_in_other lo hi end (drop at s) x (drop n s) it.0 (rw (drop_past s n h))
+    in_end h = number_in_other lo hi end (drop at s) x.value (drop x.next s) it.0 (rw (drop_past s x.next h))
 
-    module _ (h : n < length s) where
+    module _ (h : x.next < length s) where
       -- Another byte stands behind the number.
-      pub in_other : (get_or s n 0 ≡ end → ⊥) → number_in lo hi end (drop at s) ≡ lost
-      in_other d = number_in_other lo hi end (drop at s) x (drop n s) it.0 (rw (drop_next s n h) (literal_other end [] (get_or s n 0) (drop (n + 1) s) d))
+      pub in_other : (get_or s x.next 0 ≡ end → ⊥) → number_in lo hi end (drop at s) ≡ lost
+      in_other d =
+          number_in_other lo hi end (drop at s) x.value (drop x.next s) it.0
+          (rw (drop_next s x.next h) (literal_other end [] (get_or s x.next 0) (drop (x.next + 1) s) d))
 
       -- The number lies in the range, and the byte ends it.
-      pub in_right : get_or s n 0 ≡ end → lo ≤ x → Found s (number_in lo hi end (drop at s)) x (n + 1)
+      pub in_right : get_or s x.next 0 ≡ end → lo ≤ x.value → Found s (number_in lo hi end (drop at s)) x.value (x.next + 1)
       unfolding literal
       in_right d l =
           record {
             inside = omega arith;
             read =
-                number_in_ended lo hi end (drop at s) x (drop n s) it.0 (rw (drop_next s n h) (literal_same end [] (get_or s n 0) (drop (n + 1) s) d))
-                ∙ within_in lo hi x (drop (n + 1) s) l it.1;
+                number_in_ended lo hi end (drop at s) x.value (drop x.next s) it.0
+                (rw (drop_next s x.next h) (literal_same end [] (get_or s x.next 0) (drop (x.next + 1) s) d))
+                ∙ within_in lo hi x.value (drop (x.next + 1) s) l it.1;
           }
 
 -- ---- a line
@@ -259,7 +268,7 @@ module _ (s : List ℕ) (at lo hi end : ℕ) (r : Number) (found : FoundNumber s
 pub line_number
     : (key s : List ℕ) (at lo hi : ℕ) {p : ℕ}
     → Found s (literal key (drop at s)) tt p
-    → (x : Number)
+    → (x : Option Number)
     → FoundNumber s (number_in lo hi 10 (drop p s)) x
     → FoundNumber s (line_in key lo hi (drop at s)) x
 unfolding line_in onward

@@ -1,26 +1,23 @@
 -- What the code's answers say of what a reader finds in a text s: the value, and the place up to which it was read; or that it finds nothing.
 -- A value and a place fix one another: no second answer says the same of one find. Assumes nothing.
-use Rattle.std.specs.Prelude.{ℕ, ◌+◌, ◌*◌, ◌≤◌, ◌<◌, List, ◌≡◌, length, drop, get_or}
+use Rattle.std.specs.Prelude.{ℕ, ◌+◌, ◌*◌, ◌≤◌, ◌<◌, List, ◌≡◌, length, drop, get_or, Option, Some, None}
 use Rattle.text.specs.Reader.{Got, got, lost}
-use Rattle.text.specs.declared.Next.{Next}
-use Rattle.text.specs.declared.Next.TheVariants.{At, Bad as Next-as-Bad}
 use Rattle.text.specs.declared.Number.{Number}
-use Rattle.text.specs.declared.Number.TheVariants.{Is, Bad as Number-as-Bad}
 
 -- The reader found a, and left what stands in s from the place n on.
 pub record Found {A : Type 0} (s : List ℕ) (g : Got A) (a : A) (n : ℕ) : Type 0 where
   pub inside : n ≤ length s
   pub read : g ≡ got a (drop n s)
 
--- A text that has no value of its own.
-abbrev pub FoundNext : List ℕ → Got (Unit {0}) → Next → Type 0
-FoundNext s g (At n) = Found s g tt n
-FoundNext s g Next-as-Bad = g ≡ lost
+-- A text that has no value of its own: the place past it.
+abbrev pub FoundNext : List ℕ → Got (Unit {0}) → Option ℕ → Type 0
+FoundNext s g (Some n) = Found s g tt n
+FoundNext s g None = g ≡ lost
 
 -- A number.
-abbrev pub FoundNumber : List ℕ → Got ℕ → Number → Type 0
-FoundNumber s g (Is x n) = Found s g x n
-FoundNumber s g Number-as-Bad = g ≡ lost
+abbrev pub FoundNumber : List ℕ → Got ℕ → Option Number → Type 0
+FoundNumber s g (Some x) = Found s g x.value x.next
+FoundNumber s g None = g ≡ lost
 
 -- The four bytes of s from a place on as one number, the first the lowest. They are bytes, so the number tells each of them.
 pub record IsFour (s : List ℕ) (at r : ℕ) : Type 0 where

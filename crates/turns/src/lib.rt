@@ -8,22 +8,19 @@ ghost use Rattle.state.specs.Image.{head_size, state_size, image, kept_in, state
 ghost use Rattle.state.specs.Check.{is_some};
 ghost use Rattle.rules.specs.Events.{started, restart};
 ghost use Rattle.rules.specs.Receive.{follower_at};
-ghost use Rattle.promise.specs.Promise.{who_in, Starts, Raises};
+ghost use Rattle.kinds.specs.Caller.{who_in};
+ghost use Rattle.promise.specs.Promise.{Starts, Raises};
 
-use kinds::Term;
-use promise::Caller;
+use kinds::{Caller, Term};
 use state::Head;
 
 // Clears the bytes from one place to another.
+// (The library's `fill` of a part. It stays, since what is public stays.)
 pub fn clear(s: &mut [u8], from: usize, to: usize)
     requires { (from ≤ to) × (to ≤ length s.old) }
     ensures { s.new ≡ sets s.old from (replicate (to - from) 0) }
 {
-    let mut i = from;
-    while i < to {
-        s[i] = 0;
-        i += 1;
-    }
+    s[from..to].fill(0);
 }
 
 // Clears the gathered rows behind the log.
@@ -32,11 +29,8 @@ pub fn clear_gathered(h: Head, state: &mut [u8])
     ensures { state.new ≡ sets state.old (head_size + h.length.0 * row_size) (replicate (h.gathered.0 * row_size) 0) }
 {
     let from = head::row_after(h.length);
-    clear(
-        state,
-        from,
-        from + (h.gathered.number() as usize) * kinds::ROW,
-    );
+    let rows = u32::from(h.gathered) as usize;
+    clear(state, from, from + rows * kinds::ROW);
 }
 
 // Becomes a follower of its own term or of a higher one, lost parts cleared.

@@ -13,13 +13,13 @@ pub packed-requires : goal.packed-requires
 packed-requires c = search (rules, entries_small)
 
 -- The numbers are put.
-pub returns-in-Message : goal.returns-in-Message
-returns-in-Message c = search (rules, tells_message)
+pub returns-in-Ok : goal.returns-in-Ok
+returns-in-Ok c = search (rules, tells_message)
 
 -- The place has its bits.
 pub placed-requires : goal.placed-requires
 placed-requires c = search (rules, place_small)
 
 -- The text is no legal message.
-pub returns-in-Refused : goal.returns-in-Refused
-returns-in-Refused c = search (rules, tells_refused)
+pub returns-in-Err : goal.returns-in-Err
+returns-in-Err c = search (rules, tells_refused)

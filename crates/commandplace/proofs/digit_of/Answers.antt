@@ -1,24 +1,23 @@
--- `commandplace::digit_of` meets its contract: each `return` is one case of `digit_of`. Assumes nothing.
+-- `commandplace::digit_of` meets its contract: each arm is one case of `digit_of`. Assumes nothing.
+use native.Mathlib.Omega.{arith}
 use borrow.Author.Rules.{rules}
-use Rattle.commandplace.proofs.HexLaws.{digit_below, digit_small, digit_gap, digit_great, digit_above}
+use Rattle.commandplace.proofs.HexLaws.{digit_small, digit_great, digit_none}
 use Rattle.commandplace.proofs.digit_of.Goals as goal
 
--- Below 0.
-pub returns-then-c-lt-ZERO : goal.returns-then-c-lt-ZERO
-returns-then-c-lt-ZERO c = search (rules, digit_below)
-
 -- 0 to 9.
-pub returns-then-c-le-NINE : goal.returns-then-c-le-NINE
-returns-then-c-le-NINE c = search (rules, digit_small)
-
--- Between 9 and a.
-pub returns-then-c-lt-TEN : goal.returns-then-c-lt-TEN
-returns-then-c-lt-TEN c = search (rules, digit_gap)
+pub returns-in-48-to-57 : goal.returns-in-48-to-57
+returns-in-48-to-57 c = (omega arith, search (rules, digit_small))
 
 -- a to f.
-pub returns-then-c-le-FIFTEEN : goal.returns-then-c-le-FIFTEEN
-returns-then-c-le-FIFTEEN c = search (rules, digit_great)
+pub returns-in-97-to-102 : goal.returns-in-97-to-102
+returns-in-97-to-102 c = (omega arith, search (rules, digit_great))
 
--- Above f.
-pub returns : goal.returns
-returns c = search (rules, digit_above)
+-- Any other byte: below 0, between 9 and a, above f.
+pub returns-in_default : goal.returns-in_default
+returns-in_default c = search (rules, digit_none)
+
+pub returns-in_default-2 : goal.returns-in_default-2
+returns-in_default-2 c = search (rules, digit_none)
+
+pub returns-in_default-3 : goal.returns-in_default-3
+returns-in_default-3 c = search (rules, digit_none)

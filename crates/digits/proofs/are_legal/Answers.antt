@@ -4,18 +4,6 @@ use Rattle.digits.proofs.are_legal.Goals as goal
 
 pub returns : goal.returns
 returns c =
-    let d4 = c in
-    let d3 = d4 in
-    let d2 = d3 in
-    let d1 = d2 in
-    let what = d1 in
-    let b = what in
-    let a = b in
-    let duration = a in
-    let kind = duration in
-    let motor = kind in
-    let known = motor in
-    let start = known in
-    told_eights start.args.s.now start.args.at start.requires (λ i. (known.shared_slice_known-1.given i).fits) _ _ _ _ _ _
-    c.is_legal.ensures motor.get32-motor.ensures kind.get32-kind.ensures duration.get64-duration.ensures a.get64-a.ensures b.get64-b.ensures
-    what.join_halves-what.ensures d1.are_digits.ensures d2.are_digits-2.ensures d3.are_digits-3.ensures d4.are_digits-4.ensures
+    told_eights c.args.s.now c.args.at c.requires (λ i. (c.type_inv.s i).fits) _ _ _ _ _ _
+    c.is_legal.ensures c.get32-motor.ensures c.get32-kind.ensures c.get64-duration.ensures c.get64-a.ensures c.get64-b.ensures
+    c.get64-what.ensures c.are_digits.ensures c.are_digits-2.ensures c.are_digits-3.ensures c.are_digits-4.ensures

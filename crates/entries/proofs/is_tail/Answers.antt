@@ -8,9 +8,9 @@ pub returns-then-s-at-lt-TAIL : goal.returns-then-s-at-lt-TAIL
 returns-then-s-at-lt-TAIL c = search (rules, tail_few)
 
 -- No digits of a legal command.
-pub returns-then-not-are_legal : goal.returns-then-not-are_legal
-returns-then-not-are_legal c = search (rules, tail_not)
+pub returns-else-are_legal : goal.returns-else-are_legal
+returns-else-are_legal c = search (rules, tail_not)
 
 -- The byte behind them decides.
-pub returns : goal.returns
-returns c = search (rules, tail_byte)
+pub returns-then-are_legal : goal.returns-then-are_legal
+returns-then-are_legal c = search (rules, tail_byte)

@@ -1,36 +1,38 @@
--- `fill::put_entries` meets its contract. The loop's invariant: the lines from `from` on, `left` of them, still go into the rows from `to` on.
--- The measure is `left`. Assumes nothing.
-use mathlib.Core.Path.{sym, ◌∙◌}
-use Prim.Native.Nat.{◌≤◌}
-use borrow.Author.Rules.{rules}
+-- `fill::put_entries` meets its contract. The loop's invariant: the entries that are left still go into the rows behind the first ones. Assumes nothing.
+use Prim.Native.Nat.{ℕ, ◌+◌, ◌*◌}
+use mathlib.Core.Path.{◌≡◌, ◌∙◌, ap}
 use native.Mathlib.Omega.{arith}
-use Rattle.entries.proofs.WalkLaws.{lie_there, lie_on, lie_next}
-use Rattle.fill.proofs.EntriesLaws.{put_none, put_next}
+use lib.ListN.{length}
+use lib.Seq.{sets}
+use Rattle.std.proofs.Common.{rules}
+use Rattle.std.specs.Iterator.Adapters.{enumerate_source, enumerate_count}
+use Rattle.kinds.specs.Sizes.{row_size}
+use Rattle.rows.specs.Rows.{bytes_of}
+use Rattle.state.specs.Image.{log_row}
+use Rattle.fill.proofs.EntriesLaws.{put_next}
 use Rattle.fill.proofs.put_entries.Goals as goal
 
--- A line stands there.
-pub next_entry-requires : goal.next_entry-requires
-next_entry-requires c =
-    let loop = c.loop-left in
-    lie_there _ loop.from loop.left loop.invariant.0 c.loop-left-test.true
-
--- So one is found.
-pub returns-in_default : goal.returns-in_default
-returns-in_default c =
-    let loop = c.loop-left in
-    absurd (lie_on _ loop.from loop.left loop.invariant.0 c.loop-left-test.true c.next_entry.result c.next_entry.ensures c.in_default.is)
-
 -- One entry more is in its row.
-pub loop-left-preserved : goal.loop-left-preserved
-loop-left-preserved c =
-    let loop = c.loop-left in
-    let walked =
-    lie_next _ loop.from loop.left loop.invariant.0 c.loop-left-test.true c.next_entry.result c.next_entry.ensures _ _ _ _ _ _ c.in-Is.is in
-    let small : c.in-Is.duration ≤ 4_294_967_295 = search rules in
-    (walked.lie, omega arith, omega arith, loop.invariant.3 ∙ put_next loop.state loop.to walked small c.put_row.ensures)
+pub loop-i-preserved : goal.loop-i-preserved
+loop-i-preserved c =
+    let loop = c.loop-i in
+    let step = c.in-Some.ensures.steps in
+    let one = ap length step.0 in
+    let at : c.args.row + enumerate_count loop.i-iterator * row_size ≡ c.args.row + c.in-Some.i * row_size = omega (arith, step.1) in
+    let next : c.args.row + c.in-Some.i * row_size + row_size ≡ c.args.row + enumerate_count c.next.new.self * row_size = omega (arith, step.1, step.2) in
+    let others = bytes_of log_row (enumerate_source c.next.new.self) in (
+      search rules,
+      search rules,
+      loop.invariant.2
+          ∙ ap (λ (to : ℕ). sets loop.state to (bytes_of log_row (enumerate_source loop.i-iterator))) at
+          ∙ put_next loop.state (c.args.row + c.in-Some.i * row_size) c.in-Some.entry (enumerate_source c.next.new.self) step.0 (search rules)
+          c.put_row.ensures
+          ∙ ap (λ (to : ℕ). sets c.put_row.new.s to others) next,
+    )
 
 -- All are in their rows.
 pub returns : goal.returns
+unfolding bytes_of
 returns c =
-    let loop = c.loop-left in
-    sym (loop.invariant.3 ∙ put_none loop.left loop.to _ loop.state loop.invariant.0 c.loop-left-test.false)
+    let none = c.in-None.ensures.steps in
+    search rules

@@ -19,7 +19,7 @@ pub renumber-requires : goal.renumber-requires
 unfolding state_size
 renumber-requires c =
     let pre = c.requires in
-    omega (arith, pre.long, pre.room, c.row_after.ensures, c.number.ensures)
+    omega (arith, pre.long, pre.room, c.row_after.ensures, c.into.ensures)
 
 -- The own number is a hub's, and the joined log is within the limit.
 pub lead-requires : goal.lead-requires
@@ -35,5 +35,5 @@ write_head-requires-2 c = omega (arith, c.requires.long, c.renumber.auto)
 -- The hub leads.
 pub returns : goal.returns
 returns c =
-    counted_majority _ _ _ c.count_voters.ensures c.if-count_voters-g.false c.row_after.ensures c.number.ensures c.renumber.ensures c.lead.ensures
+    counted_majority _ _ _ c.count_voters.ensures c.if-count_voters-g.false c.row_after.ensures c.into.ensures c.renumber.ensures c.lead.ensures
     c.write_head-2.ensures

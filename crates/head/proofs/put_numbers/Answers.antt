@@ -5,8 +5,8 @@ use Rattle.head.proofs.put_numbers.Goals as goal
 pub returns : goal.returns
 returns c =
     numbers_written c.args.h c.args.s.now
-    c.put_term.ensures
-    c.put_term-2.ensures
-    c.put_place.ensures
-    c.put_place-2.ensures
-    c.put_place-3.ensures
+    (rw c.into.ensures at c.put32.ensures)
+    (rw c.into-2.ensures at c.put32-2.ensures)
+    (rw c.into-3.ensures at c.put32-3.ensures)
+    (rw c.into-4.ensures at c.put32-4.ensures)
+    (rw c.into-5.ensures at c.put32-5.ensures)

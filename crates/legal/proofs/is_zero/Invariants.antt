@@ -1,6 +1,6 @@
 -- `legal::is_zero` meets its contract. The loop's invariant: the rows are zero exactly if what is passed is, and what is left of each quarter.
--- The measure is what is left of a quarter. Assumes nothing.
-use Prim.Native.Nat.{◌-◌, ◌*◌}
+-- Assumes nothing.
+use Prim.Native.Nat.{◌*◌}
 use mathlib.Core.Path.{◌≡◌}
 use mathlib.Core.Bool.{◌&&◌}
 use Rattle.kinds.specs.Sizes.{row_size}
@@ -11,6 +11,3 @@ use Rattle.legal.proofs.is_zero.Given as goal
 
 abbrev pub invariant-loop-i : goal.invariant-loop-i
 invariant-loop-i l = zeros (part l.from (l.rows * row_size) l.s) ≡ (l.clean && quarters l.s l.from l.quarter l.i)
-
-abbrev pub decreases-loop-i : goal.decreases-loop-i
-decreases-loop-i l = l.quarter - l.i

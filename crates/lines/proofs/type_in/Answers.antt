@@ -4,8 +4,8 @@ use Rattle.lines.proofs.TypeLaws.{type_inside, type_named, type_none}
 use Rattle.lines.proofs.type_in.Goals as goal
 
 -- The line has another key.
-pub returns-in_default : goal.returns-in_default
-returns-in_default c = search (rules, type_none)
+pub returns-in_err-at : goal.returns-in_err-at
+returns-in_err-at c = search (rules, type_none)
 
 -- The name stands inside the text.
 pub kind_in-requires : goal.kind_in-requires

@@ -1,35 +1,22 @@
--- `listing::write_rows` meets its contract. The loop's invariant: the lines of the rows before `from` stand up to i, and those of the rows that
--- are left are the rest of the text. The measure is how many are left. Assumes nothing.
-use borrow.Author.Rules.{rules}
-use Rattle.listing.proofs.RowsLaws.{writing_again, writing_all, writing_length, writing_none, writing_room, writing_row}
+-- `listing::write_rows` meets its contract: the lines of the rows, one after the other. Assumes nothing.
+use Rattle.std.proofs.Common.{rules, arith, ◌∙◌}
+use Rattle.listing.proofs.RowsLaws.{writing_none, writing_room, writing_again, writing_all}
 use Rattle.listing.proofs.write_rows.Goals as goal
 
 -- At first nothing stands.
-pub loop-left-init : goal.loop-left-init
-loop-left-init c =
-    search (rules, writing_none)
+pub loop-row-init : goal.loop-row-init
+loop-row-init c = search (rules, writing_none)
 
--- The next row lies in the rows, and there is room for its line.
-pub write_row-i-requires : goal.write_row-i-requires
-write_row-i-requires c =
-    (search (rules, writing_row), search (rules, writing_room))
+-- There is room for the next line.
+pub write_row-requires-clause-room : goal.write_row-requires-clause-room
+write_row-requires-clause-room c =
+    let next = c.in-Some.ensures.steps.1 in
+    writing_room c.in-Some.row.now c.next.new.self.rest.now c.loop-row.invariant.3 next.0 (next.1 ∙ c.loop-row.invariant.2)
 
--- The place of the row after it is a place.
-pub overflow_add-from : goal.overflow_add-from
-overflow_add-from c =
-    search (rules, writing_row)
-
--- The next line stands too.
-pub loop-left-preserved : goal.loop-left-preserved
-loop-left-preserved c =
-    search (rules, writing_again)
-
--- The slice has its length.
-pub shape_of-out : goal.shape_of-out
-shape_of-out c =
-    search (rules, writing_length)
+-- It stands too.
+pub loop-row-preserved : goal.loop-row-preserved
+loop-row-preserved c = search (rules, writing_again)
 
 -- All stand.
 pub returns : goal.returns
-returns c =
-    search (rules, writing_all)
+returns c = writing_all c.loop-row.invariant.3 (omega (arith, c.in-None.ensures.steps.1.0, c.loop-row.invariant.2))

@@ -1,10 +1,15 @@
--- `listing::write_rows` meets its contract. The loop's invariant: the lines of the rows before `from` stand up to i, and those of the rows that
--- are left are the rest of the text. The measure is how many are left. Assumes nothing.
+-- `listing::write_rows` meets its contract. The loop's invariant: what is written, and that the lines of the rows that are left are the rest of the
+-- text. Assumes nothing.
+use Rattle.std.proofs.Common.{◌≡◌}
+use Rattle.kinds.specs.Sizes.{row_size}
+use Rattle.message.specs.Rows.{row_entries}
+use Rattle.message.specs.Text.{entries_text}
 use Rattle.listing.proofs.RowsLaws.{Writing}
 use Rattle.listing.proofs.write_rows.Given as goal
 
-abbrev pub invariant-loop-left : goal.invariant-loop-left
-invariant-loop-left l = Writing l.initial.out l.rows l.at l.count l.out l.i l.from l.left
-
-abbrev pub decreases-loop-left : goal.decreases-loop-left
-decreases-loop-left l = l.left
+abbrev pub invariant-loop-row : goal.invariant-loop-row
+invariant-loop-row l =
+    (goal.iterator-loop-row).can_next l.row-iterator
+    × (goal.iterator-loop-row).is_finite l.row-iterator
+    × (l.row-iterator.size ≡ row_size)
+    × Writing l.initial.out (entries_text (row_entries l.count l.rows)) l.out l.row-iterator.rest.now

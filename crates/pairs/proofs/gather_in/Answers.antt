@@ -1,45 +1,39 @@
--- `pairs::gather_in` meets its contract. The loop's invariant: the whole answer is what gathering the entries from the n-th on comes to, whose lines
--- stand from `i` on. The measure is how many are left. Assumes nothing.
-use mathlib.Core.Path.{refl}
-use Prim.Native.Nat.{◌≤◌}
-use borrow.Author.Rules.{rules}
+-- `pairs::gather_in` meets its contract. The loop's invariant: the whole answer is what gathering the entries that are left comes to, in the rows behind
+-- the first ones. Assumes nothing.
+use Prim.Native.Nat.{ℕ, ◌+◌, ◌-◌, ◌*◌}
+use mathlib.Core.Path.{◌≡◌, ◌∙◌, ap, ap₂}
 use native.Mathlib.Omega.{arith}
-use Rattle.pairs.proofs.GatheringLaws.{gathering_starts, gathering_ends, gathering_inside, gathering_there, gathering_on, gathering_next}
+use lib.ListN.{length}
+use Rattle.std.proofs.Common.{rules}
+use Rattle.std.specs.Iterator.Adapters.{enumerate_source, enumerate_count}
+use Rattle.kinds.specs.Sizes.{row_size}
+use Rattle.pairs.specs.Gather.{gathered_into}
+use Rattle.pairs.proofs.GatheringLaws.{row_length, gathering_next, gathering_ends}
 use Rattle.pairs.proofs.gather_in.Goals as goal
 
--- None is gathered yet.
-pub loop-n-init : goal.loop-n-init
-loop-n-init c =
-    (refl, gathering_starts _ _ _ _ _ _ c.requires.0 c.requires.1)
-
--- There is a line for each entry.
-pub next_entry-requires : goal.next_entry-requires
-next_entry-requires c = gathering_there c.loop-n.invariant.1 c.loop-n-test.true
-
--- And so one is found.
-pub returns-in_default : goal.returns-in_default
-returns-in_default c =
-    absurd (gathering_on c.loop-n.invariant.1 c.loop-n-test.true c.next_entry.result c.next_entry.ensures c.in_default.is)
-
--- Its row lies within the table.
-pub gather_row-requires : goal.gather_row-requires
-gather_row-requires c = gathering_inside c.loop-n.invariant.1 c.loop-n-test.true
-
--- The next row's place does not wrap.
-pub overflow_add-row : goal.overflow_add-row
-overflow_add-row c =
-    omega (arith, gathering_inside c.loop-n.invariant.1 c.loop-n-test.true, c.loop-n.invariant.0)
-
 -- One entry more is gathered.
-pub loop-n-preserved : goal.loop-n-preserved
-loop-n-preserved c =
-    let loop = c.loop-n in
-    let small : c.in-Is.duration ≤ 4_294_967_295 = search rules in (
-      omega arith,
-      gathering_next loop.invariant.1 c.loop-n-test.true c.next_entry.result c.next_entry.ensures _ _ _ _ _ _ c.in-Is.is small c.number.ensures
-          c.gather_row.ensures,
+pub loop-i-preserved : goal.loop-i-preserved
+loop-i-preserved c =
+    let loop = c.loop-i in
+    let step = c.in-Some.ensures.steps in
+    let one = ap length step.0 in
+    let long : length c.gather_row.new.state ≡ length loop.state = ap length c.gather_row.ensures ∙ row_length _ _ _ _ _ in
+    let at : c.args.first + enumerate_count loop.i-iterator * row_size ≡ c.args.first + c.in-Some.i * row_size = omega (arith, step.1) in
+    let n : c.from-held.result - enumerate_count loop.i-iterator ≡ c.from-held.result - c.in-Some.i = omega (arith, step.1) in
+    let next : c.args.first + c.in-Some.i * row_size + row_size ≡ c.args.first + enumerate_count c.next.new.self * row_size = omega (arith, step.1, step.2) in
+    let fewer : c.from-held.result - (c.in-Some.i + 1) ≡ c.from-held.result - enumerate_count c.next.new.self = omega (arith, step.1, step.2) in
+    let others = enumerate_source c.next.new.self in (
+      search rules,
+      search rules,
+      loop.invariant.2
+          ∙ ap₂ (λ (a : ℕ) (m : ℕ). gathered_into loop.state a m c.args.ballot.0 (enumerate_source loop.i-iterator)) at n
+          ∙ gathering_next loop.state _ c.from-held.result c.args.ballot.0 c.in-Some.i c.in-Some.entry others step.0 (search rules) (search rules)
+          c.gather_row.ensures
+          ∙ ap₂ (λ (a : ℕ) (m : ℕ). gathered_into c.gather_row.new.state a m c.args.ballot.0 others) next fewer,
     )
 
 -- All are gathered.
 pub returns : goal.returns
-returns c = gathering_ends c.loop-n.invariant.1 c.loop-n-test.false
+returns c =
+    let none = gathering_ends c.loop-i.state (c.args.first + enumerate_count c.loop-i.i-iterator * row_size) (c.from-held.result - enumerate_count c.loop-i.i-iterator) c.args.ballot.0 c.in-None.ensures.steps.0.0 in
+    search rules

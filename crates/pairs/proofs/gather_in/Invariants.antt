@@ -1,16 +1,17 @@
--- `pairs::gather_in` meets its contract. The loop's invariant: the whole answer is what gathering the entries from the n-th on comes to, whose lines
--- stand from `i` on. The measure is how many are left. Assumes nothing.
-use Prim.Native.Nat.{◌-◌}
+-- `pairs::gather_in` meets its contract. The loop's invariant: the whole answer is what gathering the entries that are left comes to, in the rows behind
+-- the first ones. Assumes nothing.
+use Prim.Native.Nat.{◌+◌, ◌-◌, ◌*◌, ◌≤◌}
 use mathlib.Core.Path.{◌≡◌}
 use lib.ListN.{length}
-use Rattle.message.specs.Walk.{entries_from}
+use Rattle.std.specs.Iterator.Adapters.{enumerate_source, enumerate_count}
+use Rattle.kinds.specs.Sizes.{row_size}
 use Rattle.pairs.specs.Gather.{gathered_into}
-use Rattle.pairs.proofs.GatheringLaws.{Gathering}
 use Rattle.pairs.proofs.gather_in.Given as goal
 
-abbrev pub invariant-loop-n : goal.invariant-loop-n
-invariant-loop-n l =
-    (length l.state ≡ length l.initial.state) × Gathering (gathered_into l.initial.state l.first l.held.0 l.ballot.0 (entries_from l.count l.lines)) l.ballot.0 l.count l.held.0 l.lines l.state l.i l.row l.n
-
-abbrev pub decreases-loop-n : goal.decreases-loop-n
-decreases-loop-n l = l.count - l.n
+abbrev pub invariant-loop-i : goal.invariant-loop-i
+invariant-loop-i l =
+    let n = enumerate_count l.i-iterator in
+    let left = enumerate_source l.i-iterator in
+    (l.first + (n + length left) * row_size ≤ length l.state)
+    × (length l.state ≡ length l.initial.state)
+    × (gathered_into l.initial.state l.first l.held l.ballot.0 l.fn.entries ≡ gathered_into l.state (l.first + n * row_size) (l.held - n) l.ballot.0 left)

@@ -1,17 +1,8 @@
--- `print::put` meets its contract. The loop's invariant: the first j bytes are written. The measure is what is left of the bytes. Assumes nothing.
-use Prim.Native.Nat.{◌+◌, ◌-◌, ◌≤◌}
+-- `print::put` meets its contract. The loop's invariant: the first i bytes are written. Assumes nothing.
 use mathlib.Core.Path.{◌≡◌}
-use lib.ListN.{length, take}
+use lib.ListN.{take}
 use lib.Seq.{sets}
 use Rattle.print.proofs.put.Given as goal
 
-abbrev pub invariant-loop-j : goal.invariant-loop-j
-invariant-loop-j l =
-    (l.j ≤ length l.bytes)
-    × (l.i ≡ l.at + l.j)
-    × (length l.out ≡ length l.initial.out)
-    × (l.at + length l.bytes ≤ length l.initial.out)
-    × (l.out ≡ sets l.initial.out l.at (take l.j l.bytes))
-
-abbrev pub decreases-loop-j : goal.decreases-loop-j
-decreases-loop-j l = length l.bytes - l.j
+abbrev pub invariant-loop-i : goal.invariant-loop-i
+invariant-loop-i l = l.out ≡ sets l.initial.out l.at (take l.i l.bytes)

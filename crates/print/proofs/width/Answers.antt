@@ -1,13 +1,6 @@
--- `print::width` meets its contract. The loop's invariant: the digits counted and those of y are one more than x has, since y's last is counted
--- twice. The measure is y. Assumes nothing.
-use borrow.Author.Rules.{rules}
-use Rattle.text.proofs.WroteLaws.{width_again, width_done}
+-- `print::width` meets its contract: one digit more than the power of ten. Assumes nothing.
+use Rattle.print.proofs.WidthLaws.{width_is}
 use Rattle.print.proofs.width.Goals as goal
 
--- One more digit.
-pub loop-y-preserved : goal.loop-y-preserved
-loop-y-preserved c = search (rules, width_again)
-
--- All of them.
 pub returns : goal.returns
-returns c = search (rules, width_done)
+returns c = width_is c.ilog10.result c.args.x c.max.result c.max.ensures c.ilog10.ensures.power_le c.ilog10.ensures.next_power_gt

@@ -17,7 +17,7 @@ pub put_row-requires : goal.put_row-requires
 unfolding state_size
 put_row-requires c =
     let pre = c.requires in
-    omega (arith, ready_size _ _ pre.ready, c.row_after.ensures, pre.room)
+    omega (arith, ready_size _ _ pre.ready, c.row_after-row.ensures, pre.room)
 
 -- The own number is a hub's, and the log is not full.
 pub grow-requires : goal.grow-requires
@@ -37,4 +37,4 @@ returns c =
     let pre = c.requires in
     propose_steps _ c.args.state.now pre.ready c.args.command.now (λ i. (c.type_inv.command i).fits) pre.proposal
     (sym (ap (λ (h : Head). h.role) pre.head) ∙ pre.role) (omega (arith, ap (λ (h : Head). h.length.0) pre.head, pre.room))
-    pre.head c.row_after.ensures c.words_at.ensures c.put_row.ensures c.grow.ensures c.write_head.ensures
+    pre.head c.row_after-row.ensures c.words_at.ensures c.put_row.ensures c.grow.ensures c.write_head.ensures

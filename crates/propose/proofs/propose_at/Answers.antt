@@ -19,10 +19,10 @@ returns-then-not-is_proposal c =
     proposed_bad _ _ c.requires _ c.read_head-h.ensures c.if-h-ne-LEADER.false (sym c.is_proposal.ensures ∙ c.if-not-is_proposal.true)
 
 -- A full log.
-pub returns-then-places-number : goal.returns-then-places-number
-returns-then-places-number c =
+pub returns-then-places-into : goal.returns-then-places-into
+returns-then-places-into c =
     proposed_full _ _ c.requires _ c.read_head-h.ensures c.if-h-ne-LEADER.false (sym c.is_proposal.ensures ∙ c.if-not-is_proposal.false)
-    (omega (arith, c.number.ensures, c.places.ensures, c.if-places-number.true))
+    (omega (arith, c.into.ensures, c.places.ensures, c.if-places-into.true))
 
 -- What is needed to add it.
 pub add_entry-requires : goal.add_entry-requires
@@ -31,7 +31,7 @@ add_entry-requires c =
       ready = c.requires;
       head = c.read_head-h.ensures;
       role = c.if-h-ne-LEADER.false;
-      room = omega (arith, c.number.ensures, c.places.ensures, c.if-places-number.false);
+      room = omega (arith, c.into.ensures, c.places.ensures, c.if-places-into.false);
       proposal = sym c.is_proposal.ensures ∙ c.if-not-is_proposal.false;
     }
 
@@ -39,4 +39,4 @@ add_entry-requires c =
 pub returns : goal.returns
 returns c =
     proposed_done _ _ c.requires _ c.read_head-h.ensures c.if-h-ne-LEADER.false (sym c.is_proposal.ensures ∙ c.if-not-is_proposal.false)
-    (omega (arith, c.number.ensures, c.places.ensures, c.if-places-number.false)) c.add_entry.ensures
+    (omega (arith, c.into.ensures, c.places.ensures, c.if-places-into.false)) c.add_entry.ensures

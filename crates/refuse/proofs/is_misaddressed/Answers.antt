@@ -5,5 +5,4 @@ use Rattle.refuse.proofs.is_misaddressed.Goals as goal
 -- All of them.
 pub returns : goal.returns
 unfolding is_misaddressed
-returns c =
-    λ s. rw (c.number.ensures, c.equals.ensures, c.equals-2.ensures, c.number-2.ensures)
+returns c = λ s. rw (c.from.ensures, c.eq.ensures, c.eq-2.ensures, c.from-2.ensures)

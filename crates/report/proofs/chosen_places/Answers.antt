@@ -1,5 +1,4 @@
 -- `report::chosen_places` meets its contract. Assumes nothing.
-use Prim.Native.Nat.{ℕ}
 use mathlib.Core.Path.{sym, ◌∙◌, ap}
 use native.Mathlib.Omega.{arith}
 use Rattle.state.specs.declared.Head.{Head}
@@ -15,14 +14,13 @@ pub returns-then-not-is_kept_legal : goal.returns-then-not-is_kept_legal
 returns-then-not-is_kept_legal c = sym (chosen_bad _ (sym c.is_kept_legal.ensures ∙ c.if-not-is_kept_legal.true))
 
 -- There is a head.
-pub read_head-h-requires : goal.read_head-h-requires
+pub read_head-requires : goal.read_head-requires
 unfolding state_size
-read_head-h-requires c =
-    let legal = sym c.is_kept_legal.ensures ∙ c.if-not-is_kept_legal.false in
-    omega (arith, kept_size c.args.state.now (λ i. (c.type_inv.state i).fits) legal)
+read_head-requires c =
+    omega (arith, kept_size c.args.state.now (λ i. (c.type_inv.state i).fits) (sym c.is_kept_legal.ensures ∙ c.if-not-is_kept_legal.false))
 
 -- The head's count.
 pub returns : goal.returns
 returns c =
-    c.packed.ensures ∙ ap (λ (n : ℕ). packed done n) (c.number.ensures ∙ ap (λ (h : Head). h.chosen.0) c.read_head-h.ensures)
+    ap (packed done) (c.into.ensures ∙ ap (λ (h : Head). h.chosen.0) c.read_head.ensures)
     ∙ sym (chosen_counted _ (sym c.is_kept_legal.ensures ∙ c.if-not-is_kept_legal.false))

@@ -1,16 +1,15 @@
--- `rows::are_legal` meets its contract. The loop's invariant: the rows that are left decide as all of them do. The measure is how many are left.
--- Assumes nothing.
-use Prim.Native.Nat.{◌+◌, ◌*◌, ◌≤◌}
+-- `rows::are_legal` meets its contract. The loop's invariant: the rows that are left decide as all of them do. Assumes nothing.
 use mathlib.Core.Path.{◌≡◌}
-use lib.ListN.{length, drop}
-use Rattle.rows.specs.Rows.{row_of, rows_in, legal_rows}
+use lib.ListN.{drop}
+use Rattle.std.specs.Slice.Iter.{chunks_exact_size, chunks_exact_rest}
 use Rattle.kinds.specs.Sizes.{row_size}
+use Rattle.rows.specs.Rows.{row_of, rows_in, legal_rows}
+use Rattle.rows.proofs.LegalLaws.{whole_rows}
 use Rattle.rows.proofs.are_legal.Given as goal
 
-abbrev pub invariant-loop-left : goal.invariant-loop-left
-invariant-loop-left l =
-    (l.at + l.left * row_size ≤ length l.s)
-    × (legal_rows l.rising l.low l.high (rows_in row_of l.n (drop l.from l.s)) ≡ legal_rows l.rising l.least l.high (rows_in row_of l.left (drop l.at l.s)))
-
-abbrev pub decreases-loop-left : goal.decreases-loop-left
-decreases-loop-left l = l.left
+abbrev pub invariant-loop-row : goal.invariant-loop-row
+invariant-loop-row l =
+    (goal.iterator-loop-row).can_next l.row-iterator
+    × (goal.iterator-loop-row).is_finite l.row-iterator
+    × (chunks_exact_size l.row-iterator ≡ row_size)
+    × (legal_rows l.rising l.low l.high (rows_in row_of l.n (drop l.from l.s)) ≡ legal_rows l.rising l.least l.high (whole_rows (chunks_exact_rest l.row-iterator)))

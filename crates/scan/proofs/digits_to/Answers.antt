@@ -1,24 +1,32 @@
--- `scan::digits_to` meets its contract. The loop's invariant: the digits from `at` on make of `first` the number that those from i on make of v,
--- which is at most hi. The measure is what is left of the text. Assumes nothing.
+-- `scan::digits_to` meets its contract. Assumes nothing.
+use Prim.Native.Nat.{◌+◌, ◌*◌, ◌^◌, ◌≤◌}
+use native.Mathlib.Omega.{arith}
 use borrow.Author.Rules.{rules}
-use Rattle.text.proofs.FoundLaws.{digit_least, digits_end, digits_stop, digits_again, digits_over}
+use Rattle.text.proofs.CaseLaws.{number_lost}
+use Rattle.text.proofs.FoundLaws.{digits_end, digits_stop, digits_again, digits_over, digits_far}
 use Rattle.scan.proofs.digits_to.Goals as goal
 
 -- A byte that is no digit ends the number.
-pub returns-then-c : goal.returns-then-c
-returns-then-c c = search (rules, digits_stop)
+pub returns-then-not-is_ascii_digit : goal.returns-then-not-is_ascii_digit
+returns-then-not-is_ascii_digit c = search (rules, digits_stop)
 
--- A digit is 48 or more.
-pub overflow_sub-c : goal.overflow_sub-c
-overflow_sub-c c = search (rules, digit_least)
+-- Ten times the number is too large.
+pub returns-in_err-checked_mul : goal.returns-in_err-checked_mul
+returns-in_err-checked_mul c =
+    let far : 2 ^ 32 ≤ c.loop-next.value * 10 = omega (arith, c.in_err-checked_mul.ensures) in search (rules, number_lost, digits_far)
 
--- The number is too large.
-pub returns-then-most-v : goal.returns-then-most-v
-returns-then-most-v c = search (rules, digits_over)
+-- With the digit it is.
+pub returns-in_err-value : goal.returns-in_err-value
+returns-in_err-value c =
+    let over : 2 ^ 32 ≤ c.loop-next.value * 10 + c.from.result = omega (arith, c.in_err-value.ensures) in search (rules, number_lost, digits_over)
+
+-- The number is above the range.
+pub returns-then-hi-value : goal.returns-then-hi-value
+returns-then-hi-value c = search (rules, digits_over)
 
 -- One more digit.
-pub loop-i-preserved : goal.loop-i-preserved
-loop-i-preserved c = search (rules, digits_again)
+pub loop-next-preserved : goal.loop-next-preserved
+loop-next-preserved c = search (rules, digits_again)
 
 -- The end of the text ends the number.
 pub returns : goal.returns

@@ -1,5 +1,4 @@
--- `seek::can_grow` meets its contract. The loop's invariant: a number of lo..hi begins with the digits of v exactly if one of l..h does. The measure
--- is h. Assumes nothing.
+-- `seek::can_grow` meets its contract. Assumes nothing.
 use borrow.Author.Rules.{rules}
 use Rattle.seek.proofs.GrowLaws.{grow_none, grow_found, grow_again}
 use Rattle.seek.proofs.can_grow.Goals as goal

@@ -6,7 +6,7 @@ use Rattle.begins.specs.Digits.{grows}
 use Rattle.seek.proofs.can_grow.Given as goal
 
 abbrev pub invariant-loop-h : goal.invariant-loop-h
-invariant-loop-h l = (1 ≤ l.v) × (grows l.hi l.lo l.hi l.v ≡ grows l.h l.l l.h l.v)
+invariant-loop-h l = (1 ≤ l.v) × (grows l.fn.range.hi l.fn.range.lo l.fn.range.hi l.v ≡ grows l.h l.l l.h l.v)
 
 abbrev pub decreases-loop-h : goal.decreases-loop-h
 decreases-loop-h l = l.h

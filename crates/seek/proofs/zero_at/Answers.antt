@@ -1,15 +1,12 @@
--- `seek::zero_at` meets its contract: each `return` is one case of `seek_end`. Assumes nothing.
+-- `seek::zero_at` meets its contract: the byte is sought as a literal is. Assumes nothing.
 use borrow.Author.Rules.{rules}
-use Rattle.seek.proofs.NumberLaws.{end_out, end_other, end_right}
+use Rattle.seek.proofs.SoughtLaws.{number_err}
+use Rattle.seek.proofs.NumberLaws.{end_wrong, end_right}
 use Rattle.seek.proofs.zero_at.Goals as goal
 
--- The text ends.
-pub returns-then-s-at : goal.returns-then-s-at
-returns-then-s-at c = search (rules, end_out)
-
--- Another byte stands there.
-pub returns-then-s-at-2 : goal.returns-then-s-at-2
-returns-then-s-at-2 c = search (rules, end_other)
+-- The text ends, or another byte stands there.
+pub returns-in_err-next : goal.returns-in_err-next
+returns-in_err-next c = search (rules, number_err, end_wrong)
 
 -- The right byte stands there.
 pub returns : goal.returns

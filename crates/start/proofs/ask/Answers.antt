@@ -4,8 +4,8 @@ use Rattle.start.proofs.ask.Goals as goal
 
 -- The request may be written.
 pub speak-requires : goal.speak-requires
-speak-requires c = may_ask _ _ _ _ c.requires c.of.ensures
+speak-requires c = may_ask _ _ _ c.args.hub.now.tested _ c.requires c.from.ensures
 
 -- It is what the hub asks.
 pub returns : goal.returns
-returns c = said_asks _ _ _ _ c.requires c.of.ensures c.speak.ensures
+returns c = said_asks _ _ _ c.args.hub.now.tested _ c.requires c.from.ensures c.speak.ensures

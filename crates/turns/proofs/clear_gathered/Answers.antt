@@ -14,7 +14,7 @@ clear-requires c = (omega arith, omega arith)
 -- As many bytes as the rows have.
 pub returns : goal.returns
 returns c =
-    let g = c.number.result in
+    let rows = c.from-rows.result in
     let from = c.row_after-from.result in
-    let many : from + g * row_size - from ≡ g * row_size = omega arith in
-    c.clear.ensures ∙ rw (many, c.number.ensures, c.row_after-from.ensures)
+    let many : from + rows * row_size - from ≡ rows * row_size = omega arith in
+    c.clear.ensures ∙ rw (many, c.from-rows.ensures, c.row_after-from.ensures)

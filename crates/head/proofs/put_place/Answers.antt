@@ -1,9 +1,0 @@
--- `head::put_place` meets its contract. Assumes nothing.
-use Prim.Native.Nat.{ℕ}
-use mathlib.Core.Path.{◌∙◌, ap}
-use lib.Seq.{sets}
-use Rattle.command.specs.Words.{word}
-use Rattle.head.proofs.put_place.Goals as goal
-
-pub returns : goal.returns
-returns c = c.put32.ensures ∙ ap (λ (n : ℕ). sets c.args.s.now c.args.at (word 4 n)) c.number.ensures
