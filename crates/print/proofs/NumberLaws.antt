@@ -9,7 +9,12 @@ use lib.Dec.{ltb}
 use lib.ListN.{length, set, length-append}
 use lib.Seq.{sets, set_comm}
 use Rattle.text.specs.Decimal.{decimal}
+use Rattle.text.specs.Wrote.{Wrote}
 use Rattle.text.proofs.DecimalLaws.{decimal_one, decimal_more}
+
+-- A number of one digit is written by one byte.
+pub digit_written : {out : List ℕ} {at x : ℕ} → x < 10 → Wrote out at (decimal x) (at + 1) (set out at (48 + x))
+digit_written {out} {at} {x} h = rw (decimal_one x h) (record { to = refl; text = refl })
 
 -- A byte set before a text.
 set_sets : (t l : List ℕ) (i j d : ℕ) → i < j → set (sets l j t) i d ≡ sets (set l i d) j t

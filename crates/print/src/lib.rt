@@ -30,6 +30,11 @@ pub fn write_number(out: &mut [u8], at: usize, x: u32) -> usize
     requires { at + length (decimal x) ≤ length out.old }
     ensures { Wrote out.old at (decimal x) result out.new }
 {
+    // Most numbers of a message have one digit, and nothing is counted or divided for them.
+    if x < 10 {
+        out[at] = text::ZERO + x as u8;
+        return at + 1;
+    }
     let end = at + width(x);
     let mut left = x;
     for i in (at..end).rev() {
